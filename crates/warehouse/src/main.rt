@@ -90,13 +90,15 @@ fn obey<'w, R: AllocGlobal + Print + Input + Threads + Wait + Clock + Sync, E: W
         let PlannerParts {
             kind,
             slack,
+            effort,
             grid,
             claim,
         } = parts;
         match kind {
             PlannerKind::Near => {
                 let sharing = Sharing::new(alloc, grid, claim)?;
-                let planner: Box<dyn Planner> = Box::new(alloc, sharing.with_slack(slack))?;
+                let bounded = sharing.with_slack(slack).with_effort(effort);
+                let planner: Box<dyn Planner> = Box::new(alloc, bounded)?;
                 Ok(planner)
             }
             PlannerKind::Patient => {

@@ -8,7 +8,7 @@ use Rattle.wh_path.specs.Paths.{at, IsFree}
 use Rattle.wh_search.specs.Deliveries.{IsDelivery, IsLawful, IfNoPath}
 use Rattle.wh_search.specs.declared.errand.Errand.{Errand}
 use Rattle.wh_search.specs.declared.fault.Fault.{Fault}
-use Rattle.wh_search.specs.declared.fault.Fault.TheVariants.{NoPath, NoMemory}
+use Rattle.wh_search.specs.declared.fault.Fault.TheVariants.{NoPath, NoMemory, Effort}
 use Rattle.wh_intervals.specs.Tasks.{IsTaskOf}
 use Rattle.wh_detours.specs.Taken.{IsTaken, IsWithoutTaken}
 use Rattle.wh_detours.specs.Laws.{SameDeliveries, AllLeastThere}
@@ -65,6 +65,7 @@ pub no_path_weaker : {T : Type 0} (r : Result T Fault) (P Q : Type 0) → (P →
 no_path_weaker (Ok x) P Q f h = h
 no_path_weaker (Err NoPath) P Q f h = f h
 no_path_weaker (Err NoMemory) P Q f h = h
+no_path_weaker (Err Effort) P Q f h = h
 
 -- what delivers for a task does so for its errand
 pub delivers_errand : (g : Floor) (others : Others) (loc : Cell) (stops p : List Cell) (e : Errand) → IsTaskOf g others loc stops e → IsDelivery g others loc stops p → IsDelivery e.grid.now e.others.now e.loc stops p

@@ -1,7 +1,7 @@
 //! The call for a task of two to eight stops, with detours round others that stay or come to rest in time.
 #![tactic(auto)]
 
-ghost use Rattle.std.specs.Prelude.{◌≡◌, ℕ, ◌+◌, ◌-◌, ◌<◌, ◌≤◌, List, IfOk, length};
+ghost use Rattle.std.specs.Prelude.{◌≡◌, ℕ, ◌+◌, ◌-◌, ◌<◌, ◌≤◌, List, IfOk, IfErr, length};
 ghost use Rattle.wh_grid.specs.declared.cell.Cell.{Cell};
 ghost use Rattle.wh_grid.specs.Grids.{IsPassable};
 ghost use Rattle.wh_path.specs.Paths.{last_index};
@@ -24,7 +24,7 @@ use wh_path::TimedPath;
 use wh_resv::Reservations;
 use wh_search::errand::Errand;
 use wh_search::guide::onward_by_sights;
-use wh_search::{Fault, SearchMemory, straight_or_bound};
+use wh_search::{Fault, SearchMemory, Unfinished, straight_or_bound};
 
 /// A path that is late by no more than `slack` steps, on the grid without the cells at which one of these paths stays, or comes to
 /// rest before the agent can be there; by fields over it where the way is barred.
@@ -37,6 +37,7 @@ fn deliver_without(
     sights: &[Option<Sight>],
     barred: [bool; 9],
     slack: u64,
+    effort: &mut u64,
 ) -> Result<TimedPath, Fault>
     requires inside { IsPassable errand.now.grid.now errand.now.loc }
     requires clear { IsVacant errand.now.others.now.paths errand.now.loc 0 }
@@ -45,6 +46,8 @@ fn deliver_without(
     ensures lawful { IfOk result (λ p. IsLawful errand.now.grid.now errand.now.others.now errand.now.loc stops.now p) }
     ensures late { IfOk result (IsLateAtMost (IsDelivery errand.now.grid.now errand.now.others.now errand.now.loc stops.now) slack) }
     ensures none { IfNoPath result ((q : List Cell) → IsDelivery errand.now.grid.now errand.now.others.now errand.now.loc stops.now q → ⊥) }
+    ensures effort { effort.new ≤ effort.old }
+    ensures given_up { IfErr result (λ e. e ≡ Fault.Effort → effort.new ≡ 0) }
 {
     let (others, loc) = (errand.others, errand.loc);
     let Ok(without) = without_shut(alloc, errand.grid, others, paths, loc) else {
@@ -63,6 +66,7 @@ fn deliver_without(
         stops,
         &all[..stops.len()],
         slack,
+        effort,
     )
 }
 
@@ -76,6 +80,7 @@ fn deliver_beyond(
     sights: &[Option<Sight>],
     least: u64,
     slack: u64,
+    effort: &mut u64,
 ) -> Result<TimedPath, Fault>
     requires errand { IsErrand errand.now }
     requires task { IsTaskOf errand.now.grid.now errand.now.others.now errand.now.loc stops.now errand.now }
@@ -86,15 +91,20 @@ fn deliver_beyond(
     ensures lawful { IfOk result (λ p. IsLawful errand.now.grid.now errand.now.others.now errand.now.loc stops.now p) }
     ensures late { IfOk result (IsLateAtMost (IsDelivery errand.now.grid.now errand.now.others.now errand.now.loc stops.now) slack) }
     ensures none { IfNoPath result ((q : List Cell) → IsDelivery errand.now.grid.now errand.now.others.now errand.now.loc stops.now q → ⊥) }
+    ensures effort { effort.new ≤ effort.old }
+    ensures given_up { IfErr result (λ e. e ≡ Fault.Effort → effort.new ≡ 0) }
 {
     let barred = barred_ways(errand.grid, errand.others, errand.loc, stops, sights);
     if barred.contains(&true) {
-        return deliver_without(alloc, memory, errand, paths, stops, sights, barred, slack);
+        return deliver_without(
+            alloc, memory, errand, paths, stops, sights, barred, slack, effort,
+        );
     }
-    match over_intervals(alloc, errand, least, slack) {
+    match over_intervals(alloc, errand, least, slack, effort) {
         Ok(Some(path)) => Ok(path),
         Ok(None) => Err(Fault::NoPath),
-        Err(_) => Err(Fault::NoMemory),
+        Err(Unfinished::NoMemory) => Err(Fault::NoMemory),
+        Err(Unfinished::Effort) => Err(Fault::Effort),
     }
 }
 
@@ -102,7 +112,8 @@ fn deliver_beyond(
 /// level; in memory that is kept from one search to the next. Where others that stay, or come to rest before the agent can be
 /// there, bar the way to a stop, it is searched for on the grid without their cells, as far as they do by these paths, and by a
 /// field of its own in place of that stop's. That changes nothing in which paths are how late. `NoPath` exactly if no path
-/// delivers, however long; `NoMemory` if memory ran out.
+/// delivers, however long; `NoMemory` if memory ran out; `Effort` if it takes more expansions than are left, and none are left
+/// then.
 pub fn deliver_round<'x>(
     alloc: Global,
     memory: &mut SearchMemory,
@@ -113,6 +124,7 @@ pub fn deliver_round<'x>(
     stops: &'x [Cell],
     sights: &'x [Option<Sight<'x>>],
     slack: u64,
+    effort: &mut u64,
 ) -> Result<TimedPath, Fault>
     requires inside { IsPassable grid.now loc }
     requires clear { IsVacant others.now.paths loc 0 }
@@ -121,6 +133,8 @@ pub fn deliver_round<'x>(
     ensures lawful { IfOk result (λ p. IsLawful grid.now others.now loc stops.now p) }
     ensures late { IfOk result (IsLateAtMost (IsDelivery grid.now others.now loc stops.now) slack) }
     ensures none { IfNoPath result ((q : List Cell) → IsDelivery grid.now others.now loc stops.now q → ⊥) }
+    ensures effort { effort.new ≤ effort.old }
+    ensures given_up { IfErr result (λ e. e ≡ Fault.Effort → effort.new ≡ 0) }
 {
     let Some(soonest) = others.not_before(stops[stops.len() - 1]) else {
         return Err(Fault::NoPath);
@@ -129,11 +143,13 @@ pub fn deliver_round<'x>(
         return Err(Fault::NoMemory);
     };
     let errand = sighted_errand(grid, others, loc, stops, sights, &onward, soonest);
-    let Ok((found, least)) = straight_or_bound(alloc, memory, &errand) else {
+    let Ok((found, least)) = straight_or_bound(alloc, memory, &errand, effort) else {
         return Err(Fault::NoMemory);
     };
     match found {
         Some(path) => Ok(path),
-        None => deliver_beyond(alloc, memory, &errand, paths, stops, sights, least, slack),
+        None => deliver_beyond(
+            alloc, memory, &errand, paths, stops, sights, least, slack, effort,
+        ),
     }
 }

@@ -13,14 +13,14 @@ ghost use Rattle.wh_intervals.specs.Efforts.{MovesAtMost, IsSearchOf, IsEffort, 
 
 use crate::errand::{Errand, first_end};
 use crate::search::search;
-use std::alloc::{AllocError, Global};
+use std::alloc::Global;
 use wh_field::Field;
 use wh_grid::{Cell, Grid};
 use wh_path::TimedPath;
 use wh_resv::Reservations;
-use wh_search::Fault;
 use wh_search::errand::arrive;
 use wh_search::guide::{Guide, onward_of};
+use wh_search::{Fault, Unfinished};
 
 /// A shortest path, or none where there is no delivery; and how many arrivals were expanded.
 fn find<'x>(
@@ -31,7 +31,7 @@ fn find<'x>(
     stops: &'x [Cell],
     fields: &'x [Option<&'x Field>],
     expanded: &mut u64,
-) -> Result<Option<TimedPath>, AllocError>
+) -> Result<Option<TimedPath>, Unfinished>
     requires inside { IsPassable grid.now loc }
     requires clear { IsVacant others.now.paths loc 0 }
     requires stops { AreStops stops.now }
@@ -65,7 +65,8 @@ fn find<'x>(
         base: first_end(others, stops[last], soonest),
         slack: 0,
     };
-    search(alloc, &errand, expanded)
+    let mut effort = u64::MAX;
+    search(alloc, &errand, &mut effort, expanded)
 }
 
 /// A lawful path from loc through the stops, with the least last index. The fields that are
@@ -90,7 +91,8 @@ pub fn deliver_guided<'x>(
     match find(alloc, grid, others, loc, stops, fields, &mut expanded) {
         Ok(Some(path)) => Ok(path),
         Ok(None) => Err(Fault::NoPath),
-        Err(_) => Err(Fault::NoMemory),
+        Err(Unfinished::NoMemory) => Err(Fault::NoMemory),
+        Err(Unfinished::Effort) => Err(Fault::Effort),
     }
 }
 
@@ -119,6 +121,7 @@ pub fn guided_steps<'x>(
     match find(alloc, grid, others, loc, stops, fields, &mut expanded) {
         Ok(Some(_path)) => Ok(expanded),
         Ok(None) => Err(Fault::NoPath),
-        Err(_) => Err(Fault::NoMemory),
+        Err(Unfinished::NoMemory) => Err(Fault::NoMemory),
+        Err(Unfinished::Effort) => Err(Fault::Effort),
     }
 }

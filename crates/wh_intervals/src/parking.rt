@@ -1,7 +1,7 @@
 //! The calls for parking.
 #![tactic(auto)]
 
-ghost use Rattle.std.specs.Prelude.{◌≡◌, ℕ, ◌+◌, ◌*◌, ◌<◌, ◌≤◌, ◌^◌, List, [], IfOk, MatchOption};
+ghost use Rattle.std.specs.Prelude.{◌≡◌, ℕ, ◌+◌, ◌*◌, ◌<◌, ◌≤◌, ◌^◌, List, [], IfOk, IfErr, MatchOption};
 ghost use Rattle.wh_grid.specs.declared.cell.Cell.{Cell};
 ghost use Rattle.wh_grid.specs.Grids.{IsPassable};
 ghost use Rattle.wh_path.specs.Paths.{last_index};
@@ -21,7 +21,7 @@ use wh_path::TimedPath;
 use wh_resv::Reservations;
 use wh_search::errand::Errand;
 use wh_search::guide::Guide;
-use wh_search::{Fault, SearchMemory, find_straight};
+use wh_search::{Fault, SearchMemory, Unfinished, find_straight};
 
 /// What is searched for: a path to one of the allowed cells, by their field.
 fn errand_to_nearest<'x>(
@@ -56,7 +56,7 @@ fn errand_to_nearest<'x>(
 }
 
 /// A shortest path to one of the allowed cells, of no more steps than their field estimates; or none, where each path
-/// has more.
+/// has more, or no expansions are left.
 fn find_near(
     alloc: Global,
     memory: &mut SearchMemory,
@@ -65,17 +65,19 @@ fn find_near(
     loc: Cell,
     allowed: &[Cell],
     field: &NearestField,
+    effort: &mut u64,
 ) -> Result<Option<TimedPath>, AllocError>
     requires inside { IsPassable grid.now loc }
     requires clear { IsVacant others.now.paths loc 0 }
     requires grid { field.now.grid ≡ grid.now }
     requires ends { field.now.cells ≡ allowed.now }
-    ensures { IfOk result (λ found. MatchOption found
-        ((q : List Cell) → IsParking grid.now others.now loc allowed.now q → nearest_by field.now loc < last_index q)
+    ensures found { IfOk result (λ found. MatchOption found
+        ((q : List Cell) → IsParking grid.now others.now loc allowed.now q → 0 < effort.new → nearest_by field.now loc < last_index q)
         (λ p. IsLeastParking grid.now others.now loc allowed.now p)) }
+    ensures effort { effort.new ≤ effort.old }
 {
     let errand = errand_to_nearest(grid, others, loc, allowed, field);
-    find_straight(alloc, memory, &errand)
+    find_straight(alloc, memory, &errand, effort)
 }
 
 /// A path to one of the allowed cells that is late by no more than `slack` steps, or none, by their field; none has fewer steps
@@ -89,18 +91,21 @@ fn find_far(
     field: &NearestField,
     least: u64,
     slack: u64,
-) -> Result<Option<TimedPath>, AllocError>
+    effort: &mut u64,
+) -> Result<Option<TimedPath>, Unfinished>
     requires inside { IsPassable grid.now loc }
     requires clear { IsVacant others.now.paths loc 0 }
     requires grid { field.now.grid ≡ grid.now }
     requires ends { field.now.cells ≡ allowed.now }
     requires least { (q : List Cell) → IsParking grid.now others.now loc allowed.now q → least ≤ last_index q }
-    ensures { IfOk result (λ found. MatchOption found
+    ensures found { IfOk result (λ found. MatchOption found
         ((q : List Cell) → IsParking grid.now others.now loc allowed.now q → ⊥)
         (λ p. IsLateParking grid.now others.now loc allowed.now slack p)) }
+    ensures effort { effort.new ≤ effort.old }
+    ensures given_up { IfErr result (λ e. e ≡ Unfinished.Effort → effort.new ≡ 0) }
 {
     let errand = errand_to_nearest(grid, others, loc, allowed, field);
-    over_intervals(alloc, &errand, least, slack)
+    over_intervals(alloc, &errand, least, slack, effort)
 }
 
 /// A path to one of the allowed cells that is late by no more than `slack` steps, or none. Their field is filled as far as
@@ -115,25 +120,34 @@ fn find_nearest(
     loc: Cell,
     allowed: &[Cell],
     slack: u64,
-) -> Result<Option<TimedPath>, AllocError>
+    effort: &mut u64,
+) -> Result<Option<TimedPath>, Unfinished>
     requires inside { IsPassable grid.now loc }
     requires clear { IsVacant others.now.paths loc 0 }
-    ensures { IfOk result (λ found. MatchOption found
+    ensures found { IfOk result (λ found. MatchOption found
         ((q : List Cell) → IsParking grid.now others.now loc allowed.now q → ⊥)
         (λ p. IsLateParking grid.now others.now loc allowed.now slack p)) }
+    ensures effort { effort.new ≤ effort.old }
+    ensures given_up { IfErr result (λ e. e ≡ Unfinished.Effort → effort.new ≡ 0) }
 {
     let mut field = NearestField::until(alloc, grid, allowed, loc)?;
-    if let Some(path) = find_near(alloc, memory, grid, others, loc, allowed, &field)? {
+    let near = find_near(alloc, memory, grid, others, loc, allowed, &field, effort)?;
+    if let Some(path) = near {
         return Ok(Some(path));
+    }
+    if *effort == 0 {
+        return Err(Unfinished::Effort);
     }
     let least = u64::from(field.estimate(loc)) + 1;
     field.fill();
-    find_far(alloc, grid, others, loc, allowed, &field, least, slack)
+    find_far(
+        alloc, grid, others, loc, allowed, &field, least, slack, effort,
+    )
 }
 
 /// A lawful path from loc to one of the allowed cells that is late by no more than `slack` steps; it makes the field of them
 /// all, as far as it must, in memory that is kept from one search to the next. `NoPath` exactly if no path parks, however
-/// long; `NoMemory` if memory ran out.
+/// long; `NoMemory` if memory ran out; `Effort` if it takes more expansions than are left, and none are left then.
 pub fn park_in(
     alloc: Global,
     memory: &mut SearchMemory,
@@ -142,16 +156,20 @@ pub fn park_in(
     loc: Cell,
     allowed: &[Cell],
     slack: u64,
+    effort: &mut u64,
 ) -> Result<TimedPath, Fault>
     requires inside { IsPassable grid.now loc }
     requires clear { IsVacant others.now.paths loc 0 }
     ensures late { IfOk result (IsLateParking grid.now others.now loc allowed.now slack) }
     ensures none { IfNoPath result ((q : List Cell) → IsParking grid.now others.now loc allowed.now q → ⊥) }
+    ensures effort { effort.new ≤ effort.old }
+    ensures given_up { IfErr result (λ e. e ≡ Fault.Effort → effort.new ≡ 0) }
 {
-    match find_nearest(alloc, memory, grid, others, loc, allowed, slack) {
+    match find_nearest(alloc, memory, grid, others, loc, allowed, slack, effort) {
         Ok(Some(path)) => Ok(path),
         Ok(None) => Err(Fault::NoPath),
-        Err(_) => Err(Fault::NoMemory),
+        Err(Unfinished::NoMemory) => Err(Fault::NoMemory),
+        Err(Unfinished::Effort) => Err(Fault::Effort),
     }
 }
 
@@ -169,5 +187,15 @@ pub fn park(
     ensures none { IfNoPath result ((q : List Cell) → IsParking grid.now others.now loc allowed.now q → ⊥) }
 {
     let mut memory = SearchMemory::empty(alloc);
-    park_in(alloc, &mut memory, grid, others, loc, allowed, 0)
+    let mut effort = u64::MAX;
+    park_in(
+        alloc,
+        &mut memory,
+        grid,
+        others,
+        loc,
+        allowed,
+        0,
+        &mut effort,
+    )
 }

@@ -1,7 +1,7 @@
 //! The search, guided by an estimate, for a lawful path that is shortest, or late by no more than a slack.
 #![tactic(auto)]
 
-ghost use Rattle.std.specs.Prelude.{◌≡◌, ℕ, ◌+◌, ◌<◌, ◌≤◌, ◌^◌, List, OnOk, IfOk, IfSome, MatchOption, Option, Some, None, vec_len};
+ghost use Rattle.std.specs.Prelude.{◌≡◌, ℕ, ◌+◌, ◌<◌, ◌≤◌, ◌^◌, List, OnOk, IfOk, IfErr, IfSome, MatchOption, Option, Some, None, vec_len};
 ghost use Rattle.wh_grid.specs.declared.cell.Cell.{Cell};
 ghost use Rattle.wh_resv.specs.Calls.{IsVacant};
 ghost use Rattle.wh_intervals.specs.Problems.{problem, IsProblem};
@@ -27,12 +27,14 @@ use crate::trail::walk_back;
 use std::alloc::{AllocError, Global};
 use wh_path::TimedPath;
 use wh_resv::Reservations;
+use wh_search::Unfinished;
 
 /// Expands a node that was taken from the queue, for those times of its interval for which none is
-/// expanded yet, and counts it, if there are such times.
+/// expanded yet, and counts it, if there are such times: one expansion less is left then.
 fn take(
     errand: &Errand,
     states: &mut States,
+    effort: &mut u64,
     expanded: &mut u64,
     index: usize,
 ) -> Result<(), AllocError>
@@ -41,6 +43,7 @@ fn take(
     requires within { index < vec_len states.old.nodes }
     requires told { IsCounted (problem errand.now) states.old.nodes.items states.old.queue (Some index) (closed_by (known_in states.old.intervals)) expanded.old }
     requires few { expanded.old + 1 < 2 ^ 64 }
+    requires left { 0 < effort.old }
     requires first { (b i : ℕ) → Waiting states.old.queue b i → bound_at (problem errand.now) (node_at states.old.nodes.items index) ≤ b }
     requires past { (i : Span) (t : ℕ) → closed_by (known_in states.old.intervals) i ≡ Some t → bound_at (problem errand.now) (node_in i t) ≤ bound_at (problem errand.now) (node_at states.old.nodes.items index) }
     requires may_lead { (q : List Cell) → IsTour errand.now.grid.now errand.now.others.now errand.now.loc errand.now.via.now errand.now.ends.now q → total_at (problem errand.now) (node_at states.old.nodes.items index) ≤ last_index q + errand.now.slack }
@@ -48,6 +51,7 @@ fn take(
     ensures kept { OnOk result (IsKept (problem errand.now) states.new.nodes.items states.new.queue None) }
     ensures told { OnOk result (IsCounted (problem errand.now) states.new.nodes.items states.new.queue None (closed_by (known_in states.new.intervals)) expanded.new) }
     ensures few { OnOk result (expanded.new ≤ expanded.old + 1) }
+    ensures spent { expanded.new + effort.new ≡ expanded.old + effort.old }
 {
     let node = states.nodes[index];
     let Some(last) = close(&mut states.intervals, node)? else {
@@ -55,16 +59,18 @@ fn take(
     };
     states.expand(errand, index, u64::from(last))?;
     *expanded += 1;
+    *effort -= 1;
     Ok(())
 }
 
 /// A tour that is late by no more than the slack, or none where there is no tour; and how many arrivals were expanded, whatever
-/// was there before.
+/// was there before, by which as many expansions less are left. Where one is to be looked at when none are left, it is given up.
 pub fn search(
     alloc: Global,
     errand: &Errand,
+    effort: &mut u64,
     expanded: &mut u64,
-) -> Result<Option<TimedPath>, AllocError>
+) -> Result<Option<TimedPath>, Unfinished>
     requires errand { IsProblem (problem errand.now) }
     requires clear { IsVacant errand.now.others.now.paths errand.now.loc 0 }
     ensures expanded { IfOk result (λ found. IfSome found (λ p. errand.now.slack ≡ 0 → IsExpandedOf errand.now.grid.now errand.now.others.now errand.now.via.now errand.now.loc (guide_estimate errand.now.guide) errand.now.base errand.now.limit (last_index p) expanded.new)) }
@@ -72,7 +78,10 @@ pub fn search(
     ensures found { IfOk result (λ found. MatchOption found
         ((q : List Cell) → IsTour errand.now.grid.now errand.now.others.now errand.now.loc errand.now.via.now errand.now.ends.now q → ⊥)
         (λ p. IsLateTour errand.now.grid.now errand.now.others.now errand.now.loc errand.now.via.now errand.now.ends.now errand.now.slack p)) }
+    ensures spent { expanded.new + effort.new ≡ effort.old }
+    ensures given_up { IfErr result (λ e. e ≡ Unfinished.Effort → effort.new ≡ 0) }
 {
+    *expanded = 0;
     let left = errand.guide.estimate(errand.first, errand.loc);
     if left > errand.limit {
         return Ok(None);
@@ -81,7 +90,6 @@ pub fn search(
     let until = stay(errand, errand.loc, 0);
     let start = node_of(0, errand.first, errand.loc, until, 0)?;
     states.meet(errand, start, left)?;
-    *expanded = 0;
     for round in 0..u64::MAX {
         let Some((_bound, index)) = states.queue.pop() else {
             return Ok(None);
@@ -90,8 +98,11 @@ pub fn search(
             let path = walk_back(alloc, errand, &states.nodes, index)?;
             return Ok(Some(path));
         }
-        take(errand, &mut states, expanded, index)?;
+        if *effort == 0 {
+            return Err(Unfinished::Effort);
+        }
+        take(errand, &mut states, effort, expanded, index)?;
     }
     // not in practice: each round looks at one more of the nodes
-    Err(AllocError)
+    Err(Unfinished::NoMemory)
 }

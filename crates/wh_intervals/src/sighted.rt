@@ -1,7 +1,7 @@
 //! The call for a task of two to eight stops, by fields that are filled up to a level.
 #![tactic(auto)]
 
-ghost use Rattle.std.specs.Prelude.{◌≡◌, ℕ, ◌+◌, ◌-◌, ◌*◌, ◌<◌, ◌≤◌, ◌^◌, ◌↔◌, List, IfOk, MatchOption, length};
+ghost use Rattle.std.specs.Prelude.{◌≡◌, ℕ, ◌+◌, ◌-◌, ◌*◌, ◌<◌, ◌≤◌, ◌^◌, ◌↔◌, List, IfOk, IfErr, MatchOption, length};
 ghost use Rattle.wh_grid.specs.declared.cell.Cell.{Cell};
 ghost use Rattle.wh_grid.specs.Grids.{IsPassable};
 ghost use Rattle.wh_resv.specs.Others.{MayRest};
@@ -14,14 +14,14 @@ ghost use Rattle.wh_intervals.specs.Tasks.{IsTaskOf, AreSightsOver};
 ghost use Rattle.wh_intervals.specs.Late.{IsLateAtMost, IsLateDelivery};
 
 use crate::least::find_least;
-use std::alloc::{AllocError, Global};
+use std::alloc::Global;
 use wh_field::Sight;
 use wh_grid::{Cell, Grid};
 use wh_path::TimedPath;
 use wh_resv::Reservations;
 use wh_search::errand::{Errand, arrive, first_end};
 use wh_search::guide::{Guide, onward_by_sights};
-use wh_search::{Fault, SearchMemory};
+use wh_search::{Fault, SearchMemory, Unfinished};
 
 /// What is searched for: a path through the stops, by sights of them and the estimate from each stop on, where nobody may
 /// rest at the last one before `soonest`.
@@ -73,7 +73,8 @@ fn find_sighted<'x>(
     stops: &'x [Cell],
     sights: &'x [Option<Sight<'x>>],
     slack: u64,
-) -> Result<Option<TimedPath>, AllocError>
+    effort: &mut u64,
+) -> Result<Option<TimedPath>, Unfinished>
     requires inside { IsPassable grid.now loc }
     requires clear { IsVacant others.now.paths loc 0 }
     requires stops { AreStops stops.now }
@@ -81,17 +82,19 @@ fn find_sighted<'x>(
     ensures found { IfOk result (λ found. MatchOption found
         ((q : List Cell) → IsDelivery grid.now others.now loc stops.now q → ⊥)
         (λ p. IsLateDelivery grid.now others.now loc stops.now slack p)) }
+    ensures effort { effort.new ≤ effort.old }
+    ensures given_up { IfErr result (λ e. e ≡ Unfinished.Effort → effort.new ≡ 0) }
 {
     let Some(soonest) = others.not_before(stops[stops.len() - 1]) else {
         return Ok(None);
     };
     let onward = onward_by_sights(alloc, stops, sights)?;
     let errand = sighted_errand(grid, others, loc, stops, sights, &onward, soonest);
-    find_least(alloc, memory, &errand, slack)
+    find_least(alloc, memory, &errand, slack, effort)
 }
 
 /// As `deliver_sighted`, but late by no more than `slack` steps, and by fields of which some may be over another grid, on
-/// which no fewer cells may be walked on.
+/// which no fewer cells may be walked on. It is given up where it takes more expansions than are left.
 pub fn deliver_over<'x>(
     alloc: Global,
     memory: &mut SearchMemory,
@@ -101,6 +104,7 @@ pub fn deliver_over<'x>(
     stops: &'x [Cell],
     sights: &'x [Option<Sight<'x>>],
     slack: u64,
+    effort: &mut u64,
 ) -> Result<TimedPath, Fault>
     requires inside { IsPassable grid.now loc }
     requires clear { IsVacant others.now.paths loc 0 }
@@ -109,11 +113,16 @@ pub fn deliver_over<'x>(
     ensures lawful { IfOk result (λ p. IsLawful grid.now others.now loc stops.now p) }
     ensures late { IfOk result (IsLateAtMost (IsDelivery grid.now others.now loc stops.now) slack) }
     ensures none { IfNoPath result ((q : List Cell) → IsDelivery grid.now others.now loc stops.now q → ⊥) }
+    ensures effort { effort.new ≤ effort.old }
+    ensures given_up { IfErr result (λ e. e ≡ Fault.Effort → effort.new ≡ 0) }
 {
-    match find_sighted(alloc, memory, grid, others, loc, stops, sights, slack) {
+    match find_sighted(
+        alloc, memory, grid, others, loc, stops, sights, slack, effort,
+    ) {
         Ok(Some(path)) => Ok(path),
         Ok(None) => Err(Fault::NoPath),
-        Err(_) => Err(Fault::NoMemory),
+        Err(Unfinished::NoMemory) => Err(Fault::NoMemory),
+        Err(Unfinished::Effort) => Err(Fault::Effort),
     }
 }
 
@@ -137,5 +146,16 @@ pub fn deliver_sighted<'x>(
     ensures least { IfOk result (λ p. (q : List Cell) → IsDelivery grid.now others.now loc stops.now q → last_index p ≤ last_index q) }
     ensures none { IfNoPath result ((q : List Cell) → IsDelivery grid.now others.now loc stops.now q → ⊥) }
 {
-    deliver_over(alloc, memory, grid, others, loc, stops, sights, 0)
+    let mut effort = u64::MAX;
+    deliver_over(
+        alloc,
+        memory,
+        grid,
+        others,
+        loc,
+        stops,
+        sights,
+        0,
+        &mut effort,
+    )
 }

@@ -1,7 +1,7 @@
 //! The call for a task of two to eight stops by no field: along columns and rows alone.
 #![tactic(auto)]
 
-ghost use Rattle.std.specs.Prelude.{ℕ, ◌-◌, ◌≤◌, ◌↔◌, IfOk, IfSome, List, length};
+ghost use Rattle.std.specs.Prelude.{◌≡◌, ℕ, ◌-◌, ◌≤◌, ◌↔◌, IfOk, IfSome, List, length};
 ghost use Rattle.wh_grid.specs.declared.cell.Cell.{Cell};
 ghost use Rattle.wh_grid.specs.Grids.{IsPassable};
 ghost use Rattle.wh_path.specs.Paths.{cell_at, last_index};
@@ -73,12 +73,14 @@ pub fn deliver_unguided(
     others: &Reservations,
     loc: Cell,
     stops: &[Cell],
+    effort: &mut u64,
 ) -> Result<Option<TimedPath>, AllocError>
     requires inside { IsPassable grid.now loc }
     requires clear { IsVacant others.now.paths loc 0 }
     requires stops { AreStops stops.now }
     ensures lawful { IfOk result (λ found. IfSome found (IsLawful grid.now others.now loc stops.now)) }
     ensures least { IfOk result (λ found. IfSome found (λ p. (q : List Cell) → IsDelivery grid.now others.now loc stops.now q → last_index p ≤ last_index q)) }
+    ensures effort { effort.new ≤ effort.old }
 {
     let Some(soonest) = others.not_before(stops[stops.len() - 1]) else {
         return Ok(None);
@@ -89,5 +91,5 @@ pub fn deliver_unguided(
     if whole < LONG {
         return Ok(None);
     }
-    try_straight(alloc, memory, &errand, whole)
+    try_straight(alloc, memory, &errand, whole, effort)
 }

@@ -222,23 +222,26 @@ abbrev Found : Shape → Text → ℕ → ℕ → Type 0
 Found s name least most = arg_by_long s.rules name ≡ Some (filled (number_rule name least most))
 
 fleet_valid : (s : Shape) (settings : List Setting) (choices ends : Choices) (fleet : Fleet) (others : List Text) → texts choices.now ≡ planner_words → texts ends.now ≡ ends_words → GivesFleet settings fleet
-    → arg_by_long s.rules (codes "planner") ≡ Some (filled (choice_rule (codes "planner") choices)) → Found s (codes "slack") 0 1000 → Found s (codes "slots") 2 64 → Found s (codes "bank") 2 65536 → Found s (codes "spares") 0 16
+    → arg_by_long s.rules (codes "planner") ≡ Some (filled (choice_rule (codes "planner") choices)) → Found s (codes "slack") 0 1000 → Found s (codes "effort") 1000 1000000000 → Found s (codes "slots") 2 64 → Found s (codes "bank") 2 65536 → Found s (codes "spares") 0 16
     → arg_by_long s.rules (codes "ends") ≡ Some (filled (choice_rule (codes "ends") ends))
     → (x : Setting) → IsGiven settings x → (list_any (bytes_eq x.name) others ≡ true → IsValid s x)
-    → list_any (bytes_eq x.name) (codes "planner" ∷ codes "slack" ∷ codes "slots" ∷ codes "bank" ∷ codes "spares" ∷ codes "ends" ∷ others) ≡ true → IsValid s x
-fleet_valid s settings choices ends fleet others words ends_are gives planner slack slots bank spares found x value rest e = elim (either_true _ _ e) [
+    → list_any (bytes_eq x.name) (codes "planner" ∷ codes "slack" ∷ codes "effort" ∷ codes "slots" ∷ codes "bank" ∷ codes "spares" ∷ codes "ends" ∷ others) ≡ true → IsValid s x
+fleet_valid s settings choices ends fleet others words ends_are gives planner slack effort slots bank spares found x value rest e = elim (either_true _ _ e) [
   | inl is ↦ valid_planner s settings x choices fleet.planner (bytes_same _ _ is) value planner words gives.planner
   | inr a ↦ elim (either_true _ _ a) [
     | inl is ↦ valid_number s settings x (codes "slack") 0 1000 0 fleet.slack (bytes_same _ _ is) value slack refl refl refl (lit< tt) gives.slack
-    | inr f ↦ elim (either_true _ _ f) [
-      | inl is ↦ valid_number s settings x (codes "slots") 2 64 4 fleet.slots (bytes_same _ _ is) value slots refl refl refl (lit< tt) gives.slots
-      | inr g ↦ elim (either_true _ _ g) [
-        | inl is ↦ valid_number s settings x (codes "bank") 2 65536 1024 fleet.bank (bytes_same _ _ is) value bank refl refl refl (lit< tt) gives.bank
-        | inr h ↦ elim (either_true _ _ h) [
-          | inl is ↦ valid_number s settings x (codes "spares") 0 16 0 fleet.spares (bytes_same _ _ is) value spares refl refl refl (lit< tt) gives.spares
-          | inr i ↦ elim (either_true _ _ i) [
-            | inl is ↦ valid_ends s settings x ends fleet.homes (bytes_same _ _ is) value found ends_are gives.ends
-            | inr j ↦ rest j
+    | inr b ↦ elim (either_true _ _ b) [
+      | inl is ↦ valid_may s settings x (codes "effort") 1000 1000000000 fleet.effort (bytes_same _ _ is) value effort refl refl refl (lit< tt) gives.effort
+      | inr f ↦ elim (either_true _ _ f) [
+        | inl is ↦ valid_number s settings x (codes "slots") 2 64 4 fleet.slots (bytes_same _ _ is) value slots refl refl refl (lit< tt) gives.slots
+        | inr g ↦ elim (either_true _ _ g) [
+          | inl is ↦ valid_number s settings x (codes "bank") 2 65536 1024 fleet.bank (bytes_same _ _ is) value bank refl refl refl (lit< tt) gives.bank
+          | inr h ↦ elim (either_true _ _ h) [
+            | inl is ↦ valid_number s settings x (codes "spares") 0 16 0 fleet.spares (bytes_same _ _ is) value spares refl refl refl (lit< tt) gives.spares
+            | inr i ↦ elim (either_true _ _ i) [
+              | inl is ↦ valid_ends s settings x ends fleet.homes (bytes_same _ _ is) value found ends_are gives.ends
+              | inr j ↦ rest j
+            ]
           ]
         ]
       ]
@@ -247,7 +250,7 @@ fleet_valid s settings choices ends fleet others words ends_are gives planner sl
 ]
 
 vehicles_valid : (p t r : Choices) (q : OtherChoices) (settings : List Setting) (o : ReplayOptions) → GivesReplay settings o
-    → (x : Setting) → IsGiven settings x → list_any (bytes_eq x.name) (drop 11 replay_names) ≡ true → IsValid (leaf_at 1 p t r q) x
+    → (x : Setting) → IsGiven settings x → list_any (bytes_eq x.name) (drop 12 replay_names) ≡ true → IsValid (leaf_at 1 p t r q) x
 vehicles_valid p t r q settings o gives x value e = elim (either_true _ _ e) [
   | inl is ↦ valid_switch (leaf_at 1 p t r q) x (codes "vehicles") (bytes_same _ _ is) refl refl refl refl refl value.1
   | inr f ↦ elim (either_true _ _ f) [
@@ -265,7 +268,7 @@ vehicles_valid p t r q settings o gives x value e = elim (either_true _ _ e) [
 replay_valid : (p t r : Choices) (q : OtherChoices) (settings : List Setting) (o : ReplayOptions) → texts p.now ≡ planner_words → texts t.now ≡ tail_words → texts r.now ≡ replies_words → texts q.replay_ends.now ≡ ends_words → GivesReplay settings o
     → (x : Setting) → list_any (bytes_eq x.name) replay_names ≡ true → IsGiven settings x → IsValid (leaf_at 1 p t r q) x
 replay_valid p t r q settings o planners tails words ends gives x listed value =
-    fleet_valid (leaf_at 1 p t r q) settings p q.replay_ends o.fleet (drop 6 replay_names) planners ends gives.fleet refl refl refl refl refl refl x value
+    fleet_valid (leaf_at 1 p t r q) settings p q.replay_ends o.fleet (drop 7 replay_names) planners ends gives.fleet refl refl refl refl refl refl refl x value
     (λ e. elim (either_true _ _ e) [
       | inl is ↦ valid_tail (leaf_at 1 p t r q) settings x t o.tail (bytes_same _ _ is) value refl tails gives.tail
       | inr f ↦ elim (either_true _ _ f) [
@@ -288,7 +291,7 @@ valid_many : (s : Shape) (x : Setting) (name : Text) → x.name ≡ name → IsI
 valid_many s x name is stands found some plain no_switch many = valid_setting s x name (filled (many_rule name)) is found (many_option name many) some plain no_switch refl stands
 
 clients_valid : (p t r : Choices) (q : OtherChoices) (settings : List Setting) → texts q.replies.now ≡ replies_words → (says : SaysServe settings)
-    → (x : Setting) → IsGiven settings x → list_any (bytes_eq x.name) (drop 10 serve_names) ≡ true → IsValid (leaf_at 4 p t r q) x
+    → (x : Setting) → IsGiven settings x → list_any (bytes_eq x.name) (drop 11 serve_names) ≡ true → IsValid (leaf_at 4 p t r q) x
 clients_valid p t r q settings words says x value e = elim (either_true _ _ e) [
   | inl is ↦ valid_file (leaf_at 4 p t r q) settings x (codes "log") says.kept (bytes_same _ _ is) value refl refl refl refl says.log
   | inr s ↦ elim (either_true _ _ s) [
@@ -307,7 +310,7 @@ clients_valid p t r q settings words says x value e = elim (either_true _ _ e) [
 ]
 
 board_valid : (p t r : Choices) (q : OtherChoices) (settings : List Setting) → texts q.replies.now ≡ replies_words → (says : SaysServe settings)
-    → (x : Setting) → IsGiven settings x → list_any (bytes_eq x.name) (drop 8 serve_names) ≡ true → IsValid (leaf_at 4 p t r q) x
+    → (x : Setting) → IsGiven settings x → list_any (bytes_eq x.name) (drop 9 serve_names) ≡ true → IsValid (leaf_at 4 p t r q) x
 board_valid p t r q settings words says x value e = elim (either_true _ _ e) [
   | inl is ↦ valid_file (leaf_at 4 p t r q) settings x (codes "board") says.shown (bytes_same _ _ is) value refl refl refl refl says.board
   | inr f ↦ elim (either_true _ _ f) [
@@ -319,7 +322,7 @@ board_valid p t r q settings words says x value e = elim (either_true _ _ e) [
 live_valid : (p t r : Choices) (q : OtherChoices) (settings : List Setting) (o : LiveOptions) → texts q.live.now ≡ planner_words → texts q.live_ends.now ≡ ends_words → GivesLive settings o
     → (x : Setting) → list_any (bytes_eq x.name) live_names ≡ true → IsGiven settings x → IsValid (leaf_at 3 p t r q) x
 live_valid p t r q settings o planners ends gives x listed value =
-    fleet_valid (leaf_at 3 p t r q) settings q.live q.live_ends o.fleet (drop 6 live_names) planners ends gives.fleet refl refl refl refl refl refl x value
+    fleet_valid (leaf_at 3 p t r q) settings q.live q.live_ends o.fleet (drop 7 live_names) planners ends gives.fleet refl refl refl refl refl refl refl x value
     (λ e. elim (either_true _ _ e) [
       | inl is ↦ valid_number (leaf_at 3 p t r q) settings x (codes "turns") 1 100000 64 o.turns (bytes_same _ _ is) value refl refl refl refl (lit< tt) gives.turns
       | inr f ↦ elim (either_true _ _ f) [
@@ -331,7 +334,7 @@ live_valid p t r q settings o planners ends gives x listed value =
 serve_valid : (p t r : Choices) (q : OtherChoices) (settings : List Setting) → texts q.planners.now ≡ planner_words → texts q.replies.now ≡ replies_words → texts q.serve_ends.now ≡ ends_words → (says : SaysServe settings)
     → (x : Setting) → list_any (bytes_eq x.name) serve_names ≡ true → IsGiven settings x → IsValid (leaf_at 4 p t r q) x
 serve_valid p t r q settings planners words ends says x listed value =
-    fleet_valid (leaf_at 4 p t r q) settings q.planners q.serve_ends says.planners (drop 6 serve_names) planners ends says.fleet refl refl refl refl refl refl x value
+    fleet_valid (leaf_at 4 p t r q) settings q.planners q.serve_ends says.planners (drop 7 serve_names) planners ends says.fleet refl refl refl refl refl refl refl x value
     (λ e. elim (either_true _ _ e) [
       | inl is ↦ valid_number (leaf_at 4 p t r q) settings x (codes "journal") 1 1000000 1000000 says.entries (bytes_same _ _ is) value refl refl refl refl (lit< tt) says.journal
       | inr f ↦ elim (either_true _ _ f) [

@@ -7,7 +7,7 @@ use Rattle.clap.specs.Faults.{fault_of, is_simple_and_free, level_fault}
 use Rattle.clap.specs.Simple.{App, Shape, built, filled, help_rule, is_simple, label_of, new_shape, subcommand_of, version_rule}
 use Rattle.clap.specs.Walk.{Row, Rule, Text, action_of, answers_to, arg_by_long, first_of, nothing_held, rows_after, settled, texts, walk, has_long}
 use Rattle.wh_options.specs.Setting.{IsLine, IsSpelled, Setting, is_switch, may_repeat, single_names, value_of, values_of}
-use Rattle.wh_options.specs.Options.{GivesFleet, GivesLive, GivesRule, GivesServe, GivesVerify, HasOnly, LacksAny, Means, ReplayClashes, ReplayLacks, ServeClashes, ServeLacks, SlacksPatient, WordsGive, board_of, live_names, log_of, replay_names, rule_names, serve_names}
+use Rattle.wh_options.specs.Options.{BoundsPatient, GivesFleet, GivesLive, GivesRule, GivesServe, GivesVerify, HasOnly, LacksAny, Means, ReplayClashes, ReplayLacks, ServeClashes, ServeLacks, WordsGive, board_of, live_names, log_of, replay_names, rule_names, serve_names}
 use Rattle.wh_options.specs.Reads.{IsTold, Reads, ReadsFleet, ReadsLive, ReadsServe, clients_in, homes_of}
 use Rattle.wh_options.specs.Menu.{Choices, IsMenu, OtherChoices, choice_rule, ends_words, file_rule, many_rule, menu, number_rule, planner_words, replies_words, switch_rule, tail_words}
 use Rattle.clap.specs.declared.error.kind.ErrorKind.{ErrorKind}
@@ -177,6 +177,7 @@ HasChoice c name choices = (r : Rule) × (arg_by_long c name ≡ Some r) × (r.i
 pub record HasFleet (c : List Rule) (choices endings : Choices) : Type 0 where
   pub planner : HasChoice c (codes "planner") choices
   pub slack : HasNumber c (codes "slack") 0 1000
+  pub effort : HasNumber c (codes "effort") 1000 1000000000
   pub slots : HasNumber c (codes "slots") 2 64
   pub bank : HasNumber c (codes "bank") 2 65536
   pub spares : HasNumber c (codes "spares") 0 16
@@ -187,6 +188,7 @@ fleet_given : (s : Shape) (rest : List Text) (choices ends : Choices) (fleet : F
 fleet_given s rest choices ends fleet has words ends_are says reads = record {
   planner = planner_given s.rules says.settings fleet.planner says.taken choices words has.planner.0 has.planner.1 has.planner.2 has.planner.3 _ (says.first (codes "planner")) reads.planner;
   slack = number_given s.rules says.settings (codes "slack") 0 1000 0 fleet.slack (lit< tt) says.taken has.slack.0 has.slack.1 has.slack.2 has.slack.3 _ (says.first (codes "slack")) reads.slack;
+  effort = may_given s.rules says.settings (codes "effort") 1000 1000000000 fleet.effort (lit< tt) says.taken has.effort.0 has.effort.1 has.effort.2 has.effort.3 _ (says.first (codes "effort")) reads.effort;
   slots = number_given s.rules says.settings (codes "slots") 2 64 4 fleet.slots (lit< tt) says.taken has.slots.0 has.slots.1 has.slots.2 has.slots.3 _ (says.first (codes "slots")) reads.slots;
   bank = number_given s.rules says.settings (codes "bank") 2 65536 1024 fleet.bank (lit< tt) says.taken has.bank.0 has.bank.1 has.bank.2 has.bank.3 _ (says.first (codes "bank")) reads.bank;
   spares = number_given s.rules says.settings (codes "spares") 0 16 0 fleet.spares (lit< tt) says.taken has.spares.0 has.spares.1 has.spares.2 has.spares.3 _ (says.first (codes "spares")) reads.spares;
@@ -197,6 +199,7 @@ replay_fleet : (p t r : Choices) (q : OtherChoices) → HasFleet (leaf_at 1 p t 
 replay_fleet p t r q = record {
   planner = (filled (choice_rule (codes "planner") p), refl, refl, refl);
   slack = (filled (number_rule (codes "slack") 0 1000), refl, refl, refl);
+  effort = (filled (number_rule (codes "effort") 1000 1000000000), refl, refl, refl);
   slots = (filled (number_rule (codes "slots") 2 64), refl, refl, refl);
   bank = (filled (number_rule (codes "bank") 2 65536), refl, refl, refl);
   spares = (filled (number_rule (codes "spares") 0 16), refl, refl, refl);
@@ -207,6 +210,7 @@ live_fleet : (p t r : Choices) (q : OtherChoices) → HasFleet (leaf_at 3 p t r 
 live_fleet p t r q = record {
   planner = (filled (choice_rule (codes "planner") q.live), refl, refl, refl);
   slack = (filled (number_rule (codes "slack") 0 1000), refl, refl, refl);
+  effort = (filled (number_rule (codes "effort") 1000 1000000000), refl, refl, refl);
   slots = (filled (number_rule (codes "slots") 2 64), refl, refl, refl);
   bank = (filled (number_rule (codes "bank") 2 65536), refl, refl, refl);
   spares = (filled (number_rule (codes "spares") 0 16), refl, refl, refl);
@@ -217,6 +221,7 @@ serve_fleet : (p t r : Choices) (q : OtherChoices) → HasFleet (leaf_at 4 p t r
 serve_fleet p t r q = record {
   planner = (filled (choice_rule (codes "planner") q.planners), refl, refl, refl);
   slack = (filled (number_rule (codes "slack") 0 1000), refl, refl, refl);
+  effort = (filled (number_rule (codes "effort") 1000 1000000000), refl, refl, refl);
   slots = (filled (number_rule (codes "slots") 2 64), refl, refl, refl);
   bank = (filled (number_rule (codes "bank") 2 65536), refl, refl, refl);
   spares = (filled (number_rule (codes "spares") 0 16), refl, refl, refl);
@@ -308,13 +313,13 @@ vehicles_plain : (r : List Rule) → ArePlain r → ArePlain (filled (switch_rul
 vehicles_plain r rest = (switch_plain (codes "vehicles") refl refl, (number_plain (codes "behind") 1 1000 refl, (number_plain (codes "ahead") 1 1000 refl, rest)))
 
 pub replay_plain : (p t r : Choices) (q : OtherChoices) → ArePlain (leaf_at 1 p t r q).rules
-replay_plain p t r q = (choice_plain (codes "planner") p refl, (number_plain (codes "slack") 0 1000 refl, (number_plain (codes "slots") 2 64 refl, (number_plain (codes "bank") 2 65536 refl, (number_plain (codes "spares") 0 16 refl, (choice_plain (codes "ends") q.replay_ends refl, (choice_plain (codes "tail") t refl, (choice_plain (codes "replies") r refl, (file_plain (codes "log") refl, (number_plain (codes "told") 0 999999999 refl, (switch_plain (codes "new") refl refl, vehicles_plain (filled (switch_rule (codes "deliver")) ∷ Flags) (switch_plain (codes "deliver") refl refl, asking_plain))))))))))))
+replay_plain p t r q = (choice_plain (codes "planner") p refl, (number_plain (codes "slack") 0 1000 refl, (number_plain (codes "effort") 1000 1000000000 refl, (number_plain (codes "slots") 2 64 refl, (number_plain (codes "bank") 2 65536 refl, (number_plain (codes "spares") 0 16 refl, (choice_plain (codes "ends") q.replay_ends refl, (choice_plain (codes "tail") t refl, (choice_plain (codes "replies") r refl, (file_plain (codes "log") refl, (number_plain (codes "told") 0 999999999 refl, (switch_plain (codes "new") refl refl, vehicles_plain (filled (switch_rule (codes "deliver")) ∷ Flags) (switch_plain (codes "deliver") refl refl, asking_plain)))))))))))))
 
 pub live_plain : (p t r : Choices) (q : OtherChoices) → ArePlain (leaf_at 3 p t r q).rules
-live_plain p t r q = (choice_plain (codes "planner") q.live refl, (number_plain (codes "slack") 0 1000 refl, (number_plain (codes "slots") 2 64 refl, (number_plain (codes "bank") 2 65536 refl, (number_plain (codes "spares") 0 16 refl, (choice_plain (codes "ends") q.live_ends refl, (number_plain (codes "turns") 1 100000 refl, (number_plain (codes "journal") 1 1000000 refl, asking_plain))))))))
+live_plain p t r q = (choice_plain (codes "planner") q.live refl, (number_plain (codes "slack") 0 1000 refl, (number_plain (codes "effort") 1000 1000000000 refl, (number_plain (codes "slots") 2 64 refl, (number_plain (codes "bank") 2 65536 refl, (number_plain (codes "spares") 0 16 refl, (choice_plain (codes "ends") q.live_ends refl, (number_plain (codes "turns") 1 100000 refl, (number_plain (codes "journal") 1 1000000 refl, asking_plain)))))))))
 
 pub serve_plain : (p t r : Choices) (q : OtherChoices) → ArePlain (leaf_at 4 p t r q).rules
-serve_plain p t r q = (choice_plain (codes "planner") q.planners refl, (number_plain (codes "slack") 0 1000 refl, (number_plain (codes "slots") 2 64 refl, (number_plain (codes "bank") 2 65536 refl, (number_plain (codes "spares") 0 16 refl, (choice_plain (codes "ends") q.serve_ends refl, (number_plain (codes "journal") 1 1000000 refl, (number_plain (codes "every") 1 60000 refl, (file_plain (codes "board") refl, (number_plain (codes "board-every") 1 60000 refl, clients_plain q))))))))))
+serve_plain p t r q = (choice_plain (codes "planner") q.planners refl, (number_plain (codes "slack") 0 1000 refl, (number_plain (codes "effort") 1000 1000000000 refl, (number_plain (codes "slots") 2 64 refl, (number_plain (codes "bank") 2 65536 refl, (number_plain (codes "spares") 0 16 refl, (choice_plain (codes "ends") q.serve_ends refl, (number_plain (codes "journal") 1 1000000 refl, (number_plain (codes "every") 1 60000 refl, (file_plain (codes "board") refl, (number_plain (codes "board-every") 1 60000 refl, clients_plain q)))))))))))
 
 replay_means : (p t r : Choices) (q : OtherChoices) (rest : List Text) (o : Options) (says : LeafSays (leaf_at 1 p t r q) rest) → texts p.now ≡ planner_words → texts t.now ≡ tail_words → texts r.now ≡ replies_words → texts q.replay_ends.now ≡ ends_words
     → Reads (codes "replay") (λ id. first_of id (rows_after (leaf_at 1 p t r q).rules [] rest)) (clients_in (rows_after (leaf_at 1 p t r q).rules [] rest)) o → Means (codes "replay") says.settings o
@@ -371,7 +376,7 @@ live_means p t r q rest (Live o) says planners ends reads = (
   (
     refl,
     live_given p t r q rest o says planners ends reads.1,
-    λ both. reads.2 (lacks_as SlacksPatient (λ id. value_of id says.settings) (λ id. first_of id (rows_after (leaf_at 3 p t r q).rules [] rest)) (λ id. sym (says.first id)) both),
+    λ both. reads.2 (lacks_as BoundsPatient (λ id. value_of id says.settings) (λ id. first_of id (rows_after (leaf_at 3 p t r q).rules [] rest)) (λ id. sym (says.first id)) both),
   ),
   none_lacks (codes "live") (λ id. value_of id says.settings) refl refl,
 )

@@ -245,11 +245,12 @@ fleet_once : (xs ys : List Setting) (f g : Fleet) → Agree xs ys → GivesFleet
 fleet_once xs ys f g agree a b =
     let planner = planner_once xs ys f.planner g.planner agree a.planner b.planner in
     let slack = number_once xs ys (codes "slack") 0 0 1000 f.slack g.slack agree a.slack b.slack in
+    let effort = may_once xs ys (codes "effort") 1000 1000000000 f.effort g.effort agree a.effort b.effort in
     let slots = number_once xs ys (codes "slots") 4 2 64 f.slots g.slots agree a.slots b.slots in
     let bank = number_once xs ys (codes "bank") 1024 2 65536 f.bank g.bank agree a.bank b.bank in
     let spares = number_once xs ys (codes "spares") 0 0 16 f.spares g.spares agree a.spares b.spares in
     let homes = ends_once xs ys f.homes g.homes agree a.ends b.ends in
-    λ i. record { planner = planner i; slack = slack i; slots = slots i; bank = bank i; spares = spares i; homes = homes i }
+    λ i. record { planner = planner i; slack = slack i; effort = effort i; slots = slots i; bank = bank i; spares = spares i; homes = homes i }
 
 rule_once : (xs ys : List Setting) (p q : Bool) → AllAgree xs ys → GivesRule xs p → GivesRule ys q → p ≡ q
 rule_once xs ys p q all a b = ends_once xs ys p q (all_agree xs ys all) a.ends b.ends

@@ -84,8 +84,9 @@ verify_app ends = with_rule (ruled_app (codes "verify") ends) (switch_rule (code
 
 -- the options that say which planners there are, and where paths end
 abbrev pub fleet_app : Text → Choices → Choices → App
-fleet_app name planners ends = with_ends_rule ends (with_rule (with_rule (with_rule (with_rule (with_rule (new_app name)
-    (choice_rule (codes "planner") planners)) (number_rule (codes "slack") 0 1000)) (number_rule (codes "slots") 2 64))
+fleet_app name planners ends = with_ends_rule ends (with_rule (with_rule (with_rule (with_rule (with_rule (with_rule (new_app name)
+    (choice_rule (codes "planner") planners)) (number_rule (codes "slack") 0 1000)) (number_rule (codes "effort") 1000 1000000000))
+    (number_rule (codes "slots") 2 64))
     (number_rule (codes "bank") 2 65536)) (number_rule (codes "spares") 0 16))
 
 -- the options that say how vehicles carry out the plan

@@ -104,6 +104,7 @@ pub record GivesVehicles (settings : List Setting) (vehicles : Option VehicleOpt
 pub record GivesFleet (settings : List Setting) (fleet : Fleet) : Type 0 where
   pub planner : GivesPlanner settings fleet.planner
   pub slack : GivesNumber settings (codes "slack") 0 0 1000 fleet.slack
+  pub effort : MayGive settings (codes "effort") 1000 1000000000 fleet.effort
   pub slots : GivesNumber settings (codes "slots") 4 2 64 fleet.slots
   pub bank : GivesNumber settings (codes "bank") 1024 2 65536 fleet.bank
   pub spares : GivesNumber settings (codes "spares") 0 0 16 fleet.spares
@@ -115,7 +116,7 @@ HasOnly names =
     AllByRecursion (λ (s : Setting). list_any (bytes_eq s.name) names ≡ true)
 
 abbrev pub fleet_names : List Text
-fleet_names = codes "planner" ∷ codes "slack" ∷ codes "slots" ∷ codes "bank" ∷ codes "spares" ∷ codes "ends" ∷ []
+fleet_names = codes "planner" ∷ codes "slack" ∷ codes "effort" ∷ codes "slots" ∷ codes "bank" ∷ codes "spares" ∷ codes "ends" ∷ []
 
 abbrev pub rule_names : List Text
 rule_names = codes "ends" ∷ []
@@ -124,16 +125,16 @@ abbrev pub verify_names : List Text
 verify_names = codes "ends" ∷ codes "unended" ∷ []
 
 abbrev pub replay_names : List Text
-replay_names = codes "planner" ∷ codes "slack" ∷ codes "slots" ∷ codes "bank" ∷ codes "spares" ∷ codes "ends" ∷ codes "tail"
+replay_names = codes "planner" ∷ codes "slack" ∷ codes "effort" ∷ codes "slots" ∷ codes "bank" ∷ codes "spares" ∷ codes "ends" ∷ codes "tail"
     ∷ codes "replies" ∷ codes "log" ∷ codes "told" ∷ codes "new" ∷ codes "vehicles"
     ∷ codes "behind" ∷ codes "ahead" ∷ codes "deliver" ∷ []
 
 abbrev pub live_names : List Text
-live_names = codes "planner" ∷ codes "slack" ∷ codes "slots" ∷ codes "bank" ∷ codes "spares" ∷ codes "ends" ∷ codes "turns"
+live_names = codes "planner" ∷ codes "slack" ∷ codes "effort" ∷ codes "slots" ∷ codes "bank" ∷ codes "spares" ∷ codes "ends" ∷ codes "turns"
     ∷ codes "journal" ∷ []
 
 abbrev pub serve_names : List Text
-serve_names = codes "planner" ∷ codes "slack" ∷ codes "slots" ∷ codes "bank" ∷ codes "spares" ∷ codes "ends" ∷ codes "journal"
+serve_names = codes "planner" ∷ codes "slack" ∷ codes "effort" ∷ codes "slots" ∷ codes "bank" ∷ codes "spares" ∷ codes "ends" ∷ codes "journal"
     ∷ codes "every" ∷ codes "board" ∷ codes "board-every" ∷ codes "log" ∷ codes "new"
     ∷ codes "replies" ∷ codes "share" ∷ codes "client" ∷ []
 
@@ -190,18 +191,18 @@ abbrev pub is_patient : Option Text → Bool
 is_patient None = false
 is_patient (Some text) = bytes_eq text (codes "patient")
 
--- a slack is given, and to planners that are patient
-abbrev pub slacks_patient : (Text → Option Text) → Bool
-slacks_patient given = is_some (given (codes "slack")) && is_patient (given (codes "planner"))
+-- a slack or an effort is given, and to planners that are patient
+abbrev pub bounds_patient : (Text → Option Text) → Bool
+bounds_patient given = (is_some (given (codes "slack")) || is_some (given (codes "effort"))) && is_patient (given (codes "planner"))
 
-abbrev pub SlacksPatient : (Text → Option Text) → Type 0
-SlacksPatient given = slacks_patient given ≡ true
+abbrev pub BoundsPatient : (Text → Option Text) → Type 0
+BoundsPatient given = bounds_patient given ≡ true
 
 -- what `serve` is given does not go together
 abbrev pub ServeClashes : (Text → Option Text) → Type 0
-ServeClashes given = CoversLog given ⊎ SlacksPatient given
+ServeClashes given = CoversLog given ⊎ BoundsPatient given
 
--- what the settings of `serve` say: at least one client, a log, a board in none of the log's files, and no slack of patient planners
+-- what the settings of `serve` say: at least one client, a log, a board in none of the log's files, and no slack or effort of patient planners
 pub record GivesServe (settings : List Setting) (o : ServeOptions) : Type 0 where
   pub only : HasOnly serve_names settings
   pub fleet : GivesFleet settings o.fleet
@@ -223,14 +224,14 @@ DeliversByVehicles given = (given (codes "deliver") ≢ None) × (given (codes "
 
 -- what `replay` is given does not go together
 abbrev pub ReplayClashes : (Text → Option Text) → Type 0
-ReplayClashes given = DeliversByVehicles given ⊎ SlacksPatient given
+ReplayClashes given = DeliversByVehicles given ⊎ BoundsPatient given
 
 -- what each setting of a subcommand says by itself
 abbrev pub EachGives : Text → List Setting → Options → Type 0
 EachGives name settings (Check o) = (name ≡ codes "check") × GivesRule settings o.homes
 EachGives name settings (Replay o) = (name ≡ codes "replay") × GivesReplay settings o × (¬ ReplayClashes (λ id. value_of id settings))
 EachGives name settings (Verify o) = (name ≡ codes "verify") × GivesVerify settings o
-EachGives name settings (Live o) = (name ≡ codes "live") × GivesLive settings o × (¬ SlacksPatient (λ id. value_of id settings))
+EachGives name settings (Live o) = (name ≡ codes "live") × GivesLive settings o × (¬ BoundsPatient (λ id. value_of id settings))
 EachGives name settings (Serve o) = (name ≡ codes "serve") × GivesServe settings o
 
 -- an option of `replay` is given without the one that it belongs to
@@ -300,7 +301,7 @@ IsLacking name given clients = LacksAny name given
 abbrev pub IsClashing : Way
 IsClashing name given clients = ((name ≡ codes "serve") × (¬ ServeLacks given) × ServeClashes given)
     ⊎ (((name ≡ codes "replay") × (¬ ReplayLacks given) × ReplayClashes given)
-    ⊎ ((name ≡ codes "live") × SlacksPatient given))
+    ⊎ ((name ≡ codes "live") × BoundsPatient given))
 
 -- nothing lacks and nothing clashes, and the texts given for clients name none, or not each its own
 abbrev pub IsClientless : Way

@@ -7,9 +7,9 @@ use Rattle.clap.specs.Words.{Row, Text, all_of}
 use Rattle.clap.specs.declared.error.kind.ErrorKind.{ErrorKind}
 use Rattle.clap.specs.declared.error.kind.ErrorKind.TheVariants.{ArgumentConflict, MissingRequiredArgument, ValueValidation}
 use Rattle.wh_client.specs.Clients.{GiveClients}
-use Rattle.wh_options.specs.Options.{IsClashing, IsClientless, IsLacking, ReplayClashes, ReplayLacks, ServeClashes, ServeLacks, SlacksPatient, Way, board_of, log_of}
+use Rattle.wh_options.specs.Options.{BoundsPatient, IsClashing, IsClientless, IsLacking, ReplayClashes, ReplayLacks, ServeClashes, ServeLacks, Way, board_of, log_of}
 use Rattle.wh_options.specs.declared.mistake.Mistake.{Mistake}
-use Rattle.wh_options.specs.declared.mistake.Mistake.TheVariants.{AheadWithoutVehicles, BehindWithoutVehicles, BoardCoversLog, DeliverWithVehicles, BoardEveryWithoutBoard, NewWithoutLog, NoClients, ServeWithoutClient, ServeWithoutLog, SlackOfPatientLive, SlackOfPatientReplay, SlackOfPatientServe, ToldWithoutLog}
+use Rattle.wh_options.specs.declared.mistake.Mistake.TheVariants.{AheadWithoutVehicles, BehindWithoutVehicles, BoardCoversLog, DeliverWithVehicles, BoardEveryWithoutBoard, EffortOfPatientLive, EffortOfPatientReplay, EffortOfPatientServe, NewWithoutLog, NoClients, ServeWithoutClient, ServeWithoutLog, SlackOfPatientLive, SlackOfPatientReplay, SlackOfPatientServe, ToldWithoutLog}
 use Rattle.wh_options.specs.declared.chosen.PlannerKind.{PlannerKind}
 use Rattle.wh_options.specs.declared.chosen.PlannerKind.TheVariants.{Near, Patient}
 use Rattle.wh_options.specs.declared.chosen.Tail.{Tail}
@@ -66,6 +66,7 @@ pub record ReadsVehicles (given : Text → Option Text) (vehicles : Option Vehic
 pub record ReadsFleet (given : Text → Option Text) (fleet : Fleet) : Type 0 where
   pub planner : fleet.planner ≡ planner_of (given (codes "planner"))
   pub slack : ReadsNumber (given (codes "slack")) 0 fleet.slack
+  pub effort : MayRead (given (codes "effort")) fleet.effort
   pub slots : ReadsNumber (given (codes "slots")) 4 fleet.slots
   pub bank : ReadsNumber (given (codes "bank")) 1024 fleet.bank
   pub spares : ReadsNumber (given (codes "spares")) 0 fleet.spares
@@ -105,7 +106,7 @@ Reads name given clients (Check o) = (name ≢ codes "replay") × (name ≢ code
     × (name ≡ codes "check" → o.homes ≡ homes_of (given (codes "ends")))
 Reads name given clients (Replay o) = (name ≡ codes "replay") × ReadsReplay given o × (¬ ReplayLacks given) × (¬ ReplayClashes given)
 Reads name given clients (Verify o) = (name ≡ codes "verify") × (o.homes ≡ homes_of (given (codes "ends"))) × (o.unended ≡ is_some (given (codes "unended")))
-Reads name given clients (Live o) = (name ≡ codes "live") × ReadsLive given o × (¬ SlacksPatient given)
+Reads name given clients (Live o) = (name ≡ codes "live") × ReadsLive given o × (¬ BoundsPatient given)
 Reads name given clients (Serve o) = (name ≡ codes "serve") × ReadsServe given clients o × (¬ ServeLacks given)
     × (¬ ServeClashes given)
 
@@ -123,6 +124,9 @@ kind_of_mistake DeliverWithVehicles = ArgumentConflict
 kind_of_mistake SlackOfPatientReplay = ArgumentConflict
 kind_of_mistake SlackOfPatientLive = ArgumentConflict
 kind_of_mistake SlackOfPatientServe = ArgumentConflict
+kind_of_mistake EffortOfPatientReplay = ArgumentConflict
+kind_of_mistake EffortOfPatientLive = ArgumentConflict
+kind_of_mistake EffortOfPatientServe = ArgumentConflict
 kind_of_mistake NoClients = ValueValidation
 
 -- the options do not go together, and an error of this kind tells so

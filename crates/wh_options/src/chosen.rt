@@ -39,6 +39,9 @@ pub struct Fleet {
     pub planner: PlannerKind,
     /// By how many steps a path of a planner that searches may be late, 0 to 1000.
     pub slack: u32,
+    /// How many expansions one request of a planner that searches may take, 1000 to 1000000000, if they are bounded; beyond
+    /// them it goes the patient way.
+    pub effort: Option<u32>,
     /// How many distance fields each planner may keep, 2 to 64.
     pub slots: u32,
     /// How many slots the planners share in all, 2 to 65536.

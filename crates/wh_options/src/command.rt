@@ -13,6 +13,9 @@ const LAST_ENTRY: u64 = 999_999_999;
 /// The most entries that a journal makes room for; more are a mistake.
 const MOST_ROOM: u64 = 1_000_000;
 
+/// The most expansions of one request that are a bound; more are a mistake.
+const MOST_EFFORT: u64 = 1_000_000_000;
+
 static VERSION: &str = "0.1.0";
 
 static PLANNERS: [&str; 2] = ["near", "patient"];
@@ -185,6 +188,8 @@ fn fleet_command<'a>(
     let command = with_choice(alloc, command, "planner", PLANNERS.as_slice(), help)?;
     let help = "Steps by which a path of near may be late, 0 to 1000 [default: 0]";
     let command = with_number(alloc, command, "slack", 0, 1000, help)?;
+    let help = "Most expansions of one request of near, 1000 to 1000000000 [default: no bound]";
+    let command = with_number(alloc, command, "effort", 1000, MOST_EFFORT, help)?;
     let help = "Distance fields that each planner may keep, 2 to 64 [default: 4]";
     let command = with_number(alloc, command, "slots", 2, 64, help)?;
     let help = "Slots that all planners share, 2 to 65536 [default: 1024]";

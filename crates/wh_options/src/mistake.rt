@@ -2,7 +2,7 @@
 ghost use Rattle.std.specs.Prelude.{◌≡◌, ◌++◌, IfOk, MatchBool, codes, is_some};
 ghost use Rattle.std.specs.Str.{bytes_eq};
 ghost use Rattle.clap.specs.Words.{first_value, found_of, kind_of};
-ghost use Rattle.wh_options.specs.Options.{ReplayClashes, ReplayLacks, SlacksPatient, covers, slacks_patient};
+ghost use Rattle.wh_options.specs.Options.{BoundsPatient, ReplayClashes, ReplayLacks, covers, is_patient};
 ghost use Rattle.wh_options.specs.Reads.{Judges, JudgesReplay, JudgesServe, kind_of_mistake};
 
 use crate::command::{live_command, replay_command, serve_command};
@@ -37,6 +37,12 @@ pub(crate) enum Mistake {
     SlackOfPatientLive,
     /// The same of a service.
     SlackOfPatientServe,
+    /// The expansions of a request of a replay are bounded, and its planners are patient.
+    EffortOfPatientReplay,
+    /// The same of the threads of `live`.
+    EffortOfPatientLive,
+    /// The same of a service.
+    EffortOfPatientServe,
     /// Texts that do not name clients, each by a number and a folder of its own.
     NoClients,
 }
@@ -64,6 +70,11 @@ impl Mistake {
             | Mistake::SlackOfPatientServe => {
                 "the argument '--slack <N>' cannot be used with '--planner patient'"
             }
+            Mistake::EffortOfPatientReplay
+            | Mistake::EffortOfPatientLive
+            | Mistake::EffortOfPatientServe => {
+                "the argument '--effort <N>' cannot be used with '--planner patient'"
+            }
             Mistake::NoClients => {
                 "invalid value for '--client <CLIENT>': each wants N=FOLDER or N=FOLDER:RIGHTS, with a number from 0 to 61 and a folder of its own"
             }
@@ -85,7 +96,10 @@ impl Mistake {
             | Mistake::DeliverWithVehicles
             | Mistake::SlackOfPatientReplay
             | Mistake::SlackOfPatientLive
-            | Mistake::SlackOfPatientServe => ErrorKind::ArgumentConflict,
+            | Mistake::SlackOfPatientServe
+            | Mistake::EffortOfPatientReplay
+            | Mistake::EffortOfPatientLive
+            | Mistake::EffortOfPatientServe => ErrorKind::ArgumentConflict,
             Mistake::NoClients => ErrorKind::ValueValidation,
         }
     }
@@ -98,10 +112,13 @@ impl Mistake {
             | Mistake::BehindWithoutVehicles
             | Mistake::AheadWithoutVehicles
             | Mistake::DeliverWithVehicles
-            | Mistake::SlackOfPatientReplay => {
+            | Mistake::SlackOfPatientReplay
+            | Mistake::EffortOfPatientReplay => {
                 replay_command(alloc)?.bin_name("warehouse replay")
             }
-            Mistake::SlackOfPatientLive => live_command(alloc)?.bin_name("warehouse live"),
+            Mistake::SlackOfPatientLive | Mistake::EffortOfPatientLive => {
+                live_command(alloc)?.bin_name("warehouse live")
+            }
             _ => serve_command(alloc)?.bin_name("warehouse serve"),
         }
     }
@@ -142,24 +159,45 @@ fn lack_of_replay(replay: &ArgMatches<'_>) -> Option<Mistake>
     None
 }
 
-/// Whether a slack is given, and to planners that are patient.
-fn slacks_patient(matches: &ArgMatches<'_>) -> bool
-    ensures { result ≡ slacks_patient (first_value (found_of matches.now)) }
+/// Whether the planners are given as patient.
+fn is_patient(matches: &ArgMatches<'_>) -> bool
+    ensures { result ≡ is_patient (first_value (found_of matches.now) (codes "planner")) }
 {
     match matches.get_str("planner") {
-        Some(text) => is_given(matches, "slack") && text == "patient",
+        Some(text) => text == "patient",
         None => false,
     }
 }
 
-/// What of the options of `live` does not go together, if something does not.
-pub(crate) fn mistake_of_live(live: &ArgMatches<'_>) -> Option<Mistake>
-    ensures { Judges ErrorKind.ArgumentConflict SlacksPatient (first_value (found_of live.now)) result }
+/// The mistake of a slack, or that of an effort, if one of them is given to planners that are patient.
+fn bound_of_patient(matches: &ArgMatches<'_>, slack: Mistake, effort: Mistake) -> Option<Mistake>
+    requires slack { kind_of_mistake slack ≡ ErrorKind.ArgumentConflict }
+    requires effort { kind_of_mistake effort ≡ ErrorKind.ArgumentConflict }
+    ensures { Judges ErrorKind.ArgumentConflict BoundsPatient (first_value (found_of matches.now)) result }
 {
-    if slacks_patient(live) {
-        return Some(Mistake::SlackOfPatientLive);
+    let has_slack = is_given(matches, "slack");
+    let has_effort = is_given(matches, "effort");
+    if !is_patient(matches) {
+        return None;
+    }
+    if has_slack {
+        return Some(slack);
+    }
+    if has_effort {
+        return Some(effort);
     }
     None
+}
+
+/// What of the options of `live` does not go together, if something does not.
+pub(crate) fn mistake_of_live(live: &ArgMatches<'_>) -> Option<Mistake>
+    ensures { Judges ErrorKind.ArgumentConflict BoundsPatient (first_value (found_of live.now)) result }
+{
+    bound_of_patient(
+        live,
+        Mistake::SlackOfPatientLive,
+        Mistake::EffortOfPatientLive,
+    )
 }
 
 /// What `replay` is given beside what it does not go with, if something is.
@@ -169,10 +207,11 @@ fn clash_of_replay(replay: &ArgMatches<'_>) -> Option<Mistake>
     if is_given(replay, "deliver") && is_given(replay, "vehicles") {
         return Some(Mistake::DeliverWithVehicles);
     }
-    if slacks_patient(replay) {
-        return Some(Mistake::SlackOfPatientReplay);
-    }
-    None
+    bound_of_patient(
+        replay,
+        Mistake::SlackOfPatientReplay,
+        Mistake::EffortOfPatientReplay,
+    )
 }
 
 /// What of the options of `replay` does not go together, if something does not.
@@ -205,6 +244,17 @@ fn covers(board: &str, log: &str) -> bool
         || is_beside(board, log, ".at")
 }
 
+/// The slack or the effort that `serve` is given beside planners that are patient, if one is.
+fn bound_of_serve(serve: &ArgMatches<'_>) -> Option<Mistake>
+    ensures { Judges ErrorKind.ArgumentConflict BoundsPatient (first_value (found_of serve.now)) result }
+{
+    bound_of_patient(
+        serve,
+        Mistake::SlackOfPatientServe,
+        Mistake::EffortOfPatientServe,
+    )
+}
+
 /// The name of the log's file, where what `serve` is given goes together; else what does not.
 pub(crate) fn log_of_serve<'a>(serve: &ArgMatches<'a>) -> Result<&'a str, Mistake>
     ensures { JudgesServe (first_value (found_of serve.now)) result }
@@ -220,7 +270,9 @@ pub(crate) fn log_of_serve<'a>(serve: &ArgMatches<'a>) -> Result<&'a str, Mistak
     }
     match serve.get_str("board") {
         Some(board) if covers(board, log) => Err(Mistake::BoardCoversLog),
-        _ if slacks_patient(serve) => Err(Mistake::SlackOfPatientServe),
-        _ => Ok(log),
+        _ => match bound_of_serve(serve) {
+            Some(mistake) => Err(mistake),
+            None => Ok(log),
+        },
     }
 }

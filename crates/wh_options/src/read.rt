@@ -121,6 +121,7 @@ fn fleet(matches: &ArgMatches<'_>) -> Fleet
     Fleet {
         planner: planner(matches),
         slack: number(matches, "slack", 0),
+        effort: number_if_given(matches, "effort"),
         slots: number(matches, "slots", 4),
         bank: number(matches, "bank", 1024),
         spares: number(matches, "spares", 0),

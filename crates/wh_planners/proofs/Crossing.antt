@@ -13,4 +13,4 @@ memory_send : IsSend Memory.the_row
 memory_send = search (heap.crosses, sendable) depth 20
 
 pub sharing_send : IsSend Sharing.the_row
-sharing_send = view_send Inside.the_row _ _ _ _ (declared_send Inside.the_type (search (grid_send, grid_sync, heap.crosses, sendable) depth 20, (claim_send, (share_send, (memory_send, (search sendable depth 20, tt))))))
+sharing_send = view_send Inside.the_row _ _ _ _ (declared_send Inside.the_type (search (grid_send, grid_sync, heap.crosses, sendable) depth 20, (claim_send, (share_send, (memory_send, (search sendable depth 20, (search (heap.crosses, sendable) depth 20, (search sendable depth 20, (search sendable depth 20, tt)))))))))

@@ -1,5 +1,5 @@
 -- between what a duty asks and what the search finds
-use Rattle.std.proofs.Common.{◌≡◌, ◌≢◌, ℕ, ◌+◌, ◌<◌, ◌≤◌, ◌∙◌, Bool, true, false, ◌==◌, ◌&&◌, List, [], length, get_or, Contains, Result, Ok, Err, IfErr, refl, sym, ap, subst, eqb-true, arith}
+use Rattle.std.proofs.Common.{◌≡◌, ◌≢◌, ℕ, ◌<◌, ◌∙◌, Bool, true, false, ◌==◌, ◌&&◌, List, [], length, get_or, Contains, Result, Ok, Err, IfErr, refl, sym, ap, subst, eqb-true, arith}
 use Rattle.std.proofs.lemmas.List.{get_or_default}
 use Rattle.std.specs.Cmp.{booleans_Decides}
 use Rattle.std.specs.Cmp.Lexicographic.{pointwise}

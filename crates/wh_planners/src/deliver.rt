@@ -1,7 +1,7 @@
 //! A delivery planned by fields that planners share.
 #![tactic(auto)]
 
-ghost use Rattle.std.specs.Prelude.{◌≡◌, ℕ, ◌<◌, ◌≤◌, IfOk, IsSomeAnd, List, None, Some, length, slice_index_or};
+ghost use Rattle.std.specs.Prelude.{◌≡◌, ℕ, ◌<◌, ◌≤◌, IfOk, IfErr, IsSomeAnd, List, None, Some, length, slice_index_or};
 ghost use Rattle.wh_grid.specs.declared.cell.Cell.{Cell};
 ghost use Rattle.wh_grid.specs.Grids.{IsPassable};
 ghost use Rattle.wh_path.specs.Paths.{cell_at};
@@ -103,7 +103,8 @@ fn are_filled(store: &SharedFields, loc: Cell, stops: &[Cell]) -> bool {
 
 /// A path through the stops that is late by no more than `slack` steps, guided by the shared fields of all of them, or of as
 /// many first ones as the store has room for; and, where others that stay bar a way by them, by fields of its own, as far as
-/// they stand in these paths. What other planners have filled changes nothing in it.
+/// they stand in these paths. What other planners have filled changes nothing in it. It is given up where it takes more
+/// expansions than are left, and none are left then.
 fn deliver_guided(
     alloc: Global,
     store: &mut SharedFields,
@@ -115,6 +116,7 @@ fn deliver_guided(
     loc: Cell,
     stops: &[Cell],
     slack: u64,
+    effort: &mut u64,
 ) -> Result<TimedPath, Fault>
     requires fits { stored_grid store.old ≡ grid.now }
     requires inside { IsPassable grid.now loc }
@@ -126,6 +128,8 @@ fn deliver_guided(
     ensures lawful { IfOk result (λ p. IsLawful grid.now others.now loc stops.now p) }
     ensures late { IfOk result (IsLateAtMost (IsDelivery grid.now others.now loc stops.now) slack) }
     ensures none { IfNoPath result ((q : List Cell) → IsDelivery grid.now others.now loc stops.now q → ⊥) }
+    ensures effort { effort.new ≤ effort.old }
+    ensures given_up { IfErr result (λ e. e ≡ Fault.Effort → effort.new ≡ 0) }
 {
     match ask_fields(alloc, store, share, loc, stops) {
         Ok(levels) => {
@@ -140,6 +144,7 @@ fn deliver_guided(
                 stops,
                 &sights[..stops.len()],
                 slack,
+                effort,
             )
         }
         Err(_) => Err(Fault::NoMemory),
@@ -147,7 +152,8 @@ fn deliver_guided(
 }
 
 /// A path through the stops that is late by no more than `slack` steps. Where a field is still to be filled it is first looked
-/// for a long one along columns and rows, which needs none and is shortest.
+/// for a long one along columns and rows, which needs none and is shortest. It is given up where it takes more expansions than
+/// are left, and none are left then.
 pub fn deliver_shared(
     alloc: Global,
     store: &mut SharedFields,
@@ -159,6 +165,7 @@ pub fn deliver_shared(
     loc: Cell,
     stops: &[Cell],
     slack: u64,
+    effort: &mut u64,
 ) -> Result<TimedPath, Fault>
     requires fits { stored_grid store.old ≡ grid.now }
     requires inside { IsPassable grid.now loc }
@@ -170,15 +177,17 @@ pub fn deliver_shared(
     ensures lawful { IfOk result (λ p. IsLawful grid.now others.now loc stops.now p) }
     ensures late { IfOk result (IsLateAtMost (IsDelivery grid.now others.now loc stops.now) slack) }
     ensures none { IfNoPath result ((q : List Cell) → IsDelivery grid.now others.now loc stops.now q → ⊥) }
+    ensures effort { effort.new ≤ effort.old }
+    ensures given_up { IfErr result (λ e. e ≡ Fault.Effort → effort.new ≡ 0) }
 {
     if !are_filled(store, loc, stops) {
-        match deliver_unguided(alloc, memory, grid, others, loc, stops) {
+        match deliver_unguided(alloc, memory, grid, others, loc, stops, effort) {
             Ok(Some(path)) => return Ok(path),
             Ok(None) => {}
             Err(_) => return Err(Fault::NoMemory),
         }
     }
     deliver_guided(
-        alloc, store, share, memory, grid, others, paths, loc, stops, slack,
+        alloc, store, share, memory, grid, others, paths, loc, stops, slack, effort,
     )
 }

@@ -118,6 +118,23 @@ pub fn patient_path(
     }
 }
 
+/// The path of the patient planner, or why there is none.
+pub fn plan_patiently(alloc: Global, scene: &Scene, duty: Duty) -> Result<TimedPath, PlanFault>
+    requires agent { scene.now.agent < length scene.now.paths.now }
+    requires walk { IsWalk scene.now.grid.now (path_of scene.now.paths.now scene.now.agent) }
+    requires free { AllFree scene.now.nofollow scene.now.paths.now }
+    requires duty { IsDuty duty }
+    ensures patient { IfOk result (IsPatientPath scene.now.grid.now scene.now.paths.now scene.now.agent duty.entry) }
+    ensures lawful { IfOk result (IsLawful scene.now.grid.now scene.now.nofollow scene.now.paths.now scene.now.agent (legs duty.entry) (Serves duty.entry)) }
+    ensures no_path { IfErr result (λ fault. fault ≡ PlanFault.NoPath → HasNoClearWay scene.now.grid.now scene.now.paths.now scene.now.agent (Serves duty.entry)) }
+{
+    match patient_path(alloc, scene, duty) {
+        Ok(Some(path)) => Ok(path),
+        Ok(None) => Err(PlanFault::NoPath),
+        Err(_) => Err(PlanFault::NoMemory),
+    }
+}
+
 /// Goes its own way until all others rest, and then around them. It keeps no fields, so its slots stay empty; when it is dropped,
 /// its claim gives them back.
 #[derive(Drop)]
@@ -188,11 +205,7 @@ impl Plans for Patient {
         ensures lawful { IfOk result (IsLawful scene.now.grid.now scene.now.nofollow scene.now.paths.now scene.now.agent (legs duty.entry) (Serves duty.entry)) }
         ensures no_path { IfErr result (λ fault. fault ≡ PlanFault.NoPath → HasNoClearWay scene.now.grid.now scene.now.paths.now scene.now.agent (Serves duty.entry)) }
     {
-        match patient_path(alloc, scene, duty) {
-            Ok(Some(path)) => Ok(path),
-            Ok(None) => Err(PlanFault::NoPath),
-            Err(_) => Err(PlanFault::NoMemory),
-        }
+        plan_patiently(alloc, scene, duty)
     }
 }
 

@@ -1,4 +1,5 @@
-//! The searches of a planner: through the stops of a task, and to a parking cell.
+//! The searches of a planner: through the stops of a task, and to a parking cell. Each is given up where it takes more
+//! expansions than are left, and none are left then.
 #![tactic(auto)]
 
 ghost use Rattle.std.specs.Prelude.{◌≡◌, ℕ, ◌<◌, ◌≤◌, IfOk, IfErr, List, Contains, length};
@@ -6,6 +7,7 @@ ghost use Rattle.wh_grid.specs.declared.cell.Cell.{Cell};
 ghost use Rattle.wh_path.specs.Paths.{path_of, AllFree, IsWalk};
 ghost use Rattle.wh_search.specs.Deliveries.{AreStops};
 ghost use Rattle.wh_planner.specs.Duties.{Delivers, ParksAt, IsLawful};
+ghost use Rattle.wh_planner.specs.Asked.{IsDuty, Serves, legs};
 ghost use Rattle.wh_planners.specs.Services.{HasNoService, HasNoShorter, others_of};
 ghost use Rattle.wh_shared.specs.Shares.{stored_grid, room, slots};
 
@@ -14,7 +16,7 @@ use std::alloc::{AllocError, Global};
 use wh_grid::Cell;
 use wh_intervals::park_in;
 use wh_path::TimedPath;
-use wh_planner::{PlanFault, Scene};
+use wh_planner::{Duty, Scene};
 use wh_resv::Reservations;
 use wh_search::{Fault, SearchMemory};
 use wh_shared::{Share, SharedFields};
@@ -40,7 +42,8 @@ pub fn plan_delivery(
     scene: &Scene,
     stops: &[Cell],
     slack: u64,
-) -> Result<TimedPath, PlanFault>
+    effort: &mut u64,
+) -> Result<TimedPath, Fault>
     requires fits { stored_grid fields.old ≡ scene.now.grid.now }
     requires agent { scene.now.agent < length scene.now.paths.now }
     requires walk { IsWalk scene.now.grid.now (path_of scene.now.paths.now scene.now.agent) }
@@ -51,22 +54,25 @@ pub fn plan_delivery(
     ensures slots { slots share.new ≡ slots share.old }
     ensures lawful { IfOk result (IsLawful scene.now.grid.now scene.now.nofollow scene.now.paths.now scene.now.agent (length stops.now) (Delivers stops.now)) }
     ensures late { IfOk result (HasNoShorter scene.now.grid.now scene.now.nofollow scene.now.paths.now scene.now.agent (Delivers stops.now) slack) }
-    ensures none { IfErr result (λ fault. fault ≡ PlanFault.NoPath → HasNoService scene.now.grid.now scene.now.nofollow scene.now.paths.now scene.now.agent (Delivers stops.now)) }
+    ensures none { IfErr result (λ fault. fault ≡ Fault.NoPath → HasNoService scene.now.grid.now scene.now.nofollow scene.now.paths.now scene.now.agent (Delivers stops.now)) }
+    ensures effort { effort.new ≤ effort.old }
+    ensures given_up { IfErr result (λ e. e ≡ Fault.Effort → effort.new ≡ 0) }
 {
     let paths = scene.paths.paths();
     let loc = paths[scene.agent].at(0);
     if !scene.grid.passable(loc) {
-        return Err(PlanFault::NoPath);
+        return Err(Fault::NoPath);
     }
     match reserve(alloc, scene) {
         Ok(others) => match deliver_shared(
-            alloc, fields, share, memory, scene.grid, &others, paths, loc, stops, slack,
+            alloc, fields, share, memory, scene.grid, &others, paths, loc, stops, slack, effort,
         ) {
             Ok(path) => Ok(path),
-            Err(Fault::NoPath) => Err(PlanFault::NoPath),
-            Err(Fault::NoMemory) => Err(PlanFault::NoMemory),
+            Err(Fault::NoPath) => Err(Fault::NoPath),
+            Err(Fault::NoMemory) => Err(Fault::NoMemory),
+            Err(Fault::Effort) => Err(Fault::Effort),
         },
-        Err(_) => Err(PlanFault::NoMemory),
+        Err(_) => Err(Fault::NoMemory),
     }
 }
 
@@ -77,25 +83,64 @@ pub fn plan_parking(
     scene: &Scene,
     allowed: &[Cell],
     slack: u64,
-) -> Result<TimedPath, PlanFault>
+    effort: &mut u64,
+) -> Result<TimedPath, Fault>
     requires agent { scene.now.agent < length scene.now.paths.now }
     requires walk { IsWalk scene.now.grid.now (path_of scene.now.paths.now scene.now.agent) }
     requires free { AllFree scene.now.nofollow scene.now.paths.now }
     ensures lawful { IfOk result (IsLawful scene.now.grid.now scene.now.nofollow scene.now.paths.now scene.now.agent 2 (ParksAt (Contains allowed.now))) }
     ensures late { IfOk result (HasNoShorter scene.now.grid.now scene.now.nofollow scene.now.paths.now scene.now.agent (ParksAt (Contains allowed.now)) slack) }
-    ensures none { IfErr result (λ fault. fault ≡ PlanFault.NoPath → HasNoService scene.now.grid.now scene.now.nofollow scene.now.paths.now scene.now.agent (ParksAt (Contains allowed.now))) }
+    ensures none { IfErr result (λ fault. fault ≡ Fault.NoPath → HasNoService scene.now.grid.now scene.now.nofollow scene.now.paths.now scene.now.agent (ParksAt (Contains allowed.now))) }
+    ensures effort { effort.new ≤ effort.old }
+    ensures given_up { IfErr result (λ e. e ≡ Fault.Effort → effort.new ≡ 0) }
 {
     let paths = scene.paths.paths();
     let loc = paths[scene.agent].at(0);
     if !scene.grid.passable(loc) {
-        return Err(PlanFault::NoPath);
+        return Err(Fault::NoPath);
     }
     match reserve(alloc, scene) {
-        Ok(others) => match park_in(alloc, memory, scene.grid, &others, loc, allowed, slack) {
+        Ok(others) => match park_in(
+            alloc, memory, scene.grid, &others, loc, allowed, slack, effort,
+        ) {
             Ok(path) => Ok(path),
-            Err(Fault::NoPath) => Err(PlanFault::NoPath),
-            Err(Fault::NoMemory) => Err(PlanFault::NoMemory),
+            Err(Fault::NoPath) => Err(Fault::NoPath),
+            Err(Fault::NoMemory) => Err(Fault::NoMemory),
+            Err(Fault::Effort) => Err(Fault::Effort),
         },
-        Err(_) => Err(PlanFault::NoMemory),
+        Err(_) => Err(Fault::NoMemory),
+    }
+}
+
+/// A lawful path for the duty that is late by no more than `slack` steps.
+pub fn search_for(
+    alloc: Global,
+    fields: &mut SharedFields,
+    share: &mut Share,
+    memory: &mut SearchMemory,
+    scene: &Scene,
+    duty: Duty,
+    slack: u64,
+    effort: &mut u64,
+) -> Result<TimedPath, Fault>
+    requires fits { stored_grid fields.old ≡ scene.now.grid.now }
+    requires agent { scene.now.agent < length scene.now.paths.now }
+    requires walk { IsWalk scene.now.grid.now (path_of scene.now.paths.now scene.now.agent) }
+    requires free { AllFree scene.now.nofollow scene.now.paths.now }
+    requires duty { IsDuty duty }
+    ensures room { room fields.new ≡ room fields.old }
+    ensures grid { stored_grid fields.new ≡ stored_grid fields.old }
+    ensures slots { slots share.new ≡ slots share.old }
+    ensures lawful { IfOk result (IsLawful scene.now.grid.now scene.now.nofollow scene.now.paths.now scene.now.agent (legs duty.entry) (Serves duty.entry)) }
+    ensures late { IfOk result (HasNoShorter scene.now.grid.now scene.now.nofollow scene.now.paths.now scene.now.agent (Serves duty.entry) slack) }
+    ensures none { IfErr result (λ fault. fault ≡ Fault.NoPath → HasNoService scene.now.grid.now scene.now.nofollow scene.now.paths.now scene.now.agent (Serves duty.entry)) }
+    ensures effort { effort.new ≤ effort.old }
+    ensures given_up { IfErr result (λ e. e ≡ Fault.Effort → effort.new ≡ 0) }
+{
+    match duty {
+        Duty::Deliver { stops } => {
+            plan_delivery(alloc, fields, share, memory, scene, stops, slack, effort)
+        }
+        Duty::Park { allowed } => plan_parking(alloc, memory, scene, allowed, slack, effort),
     }
 }

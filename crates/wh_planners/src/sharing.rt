@@ -1,17 +1,19 @@
 //! The planner that searches for a path that is shortest, or late by no more than a slack, guided by distance fields that
-//! all planners share.
+//! all planners share. A request that takes more expansions than its effort it answers as the patient planner does.
 #![tactic(auto)]
 
-ghost use Rattle.std.specs.Prelude.{◌≡◌, ◌<◌, ◌≤◌, IfOk, IfErr, [], length};
+ghost use Rattle.std.specs.Prelude.{◌≡◌, ◌≢◌, ◌+◌, ◌<◌, ◌≤◌, ◌^◌, IfOk, IfErr, IfSome, None, Some, [], length};
 ghost use Rattle.wh_grid.specs.Grids.{Floor, same_floor};
 ghost use Rattle.wh_path.specs.Paths.{path_of, AllFree, IsWalk};
 ghost use Rattle.wh_planner.specs.Duties.{IsLawful, HasNoClearWay};
 ghost use Rattle.wh_planner.specs.Asked.{IsDuty, Serves, legs};
 ghost use Rattle.wh_claims.specs.Claim.{claim_amount};
+ghost use Rattle.wh_planners.specs.Patience.{IsPatientPath};
 ghost use Rattle.wh_planners.specs.Services.{HasNoService, HasNoShorter};
 ghost use Rattle.wh_shared.specs.Shares.{stored_grid, room};
 
-use crate::searches::{plan_delivery, plan_parking};
+use crate::patient::plan_patiently;
+use crate::searches::search_for;
 use std::alloc::{AllocError, Global};
 use std::marker::Model;
 use std::num::NonZeroUsize;
@@ -20,11 +22,33 @@ use wh_claims::Claim;
 use wh_grid::Grid;
 use wh_path::TimedPath;
 use wh_planner::{Duty, PlanFault, Planner, Plans, Scene};
-use wh_search::SearchMemory;
+use wh_search::{Fault, SearchMemory};
 use wh_shared::{Share, SharedFields};
 
+/// How many expansions a request may take; where they are not bounded, more than any takes.
+fn most_of(effort: Option<u32>) -> u64
+    ensures { IfSome effort (λ n. result ≡ n) }
+{
+    match effort {
+        Some(most) => u64::from(most),
+        None => u64::MAX,
+    }
+}
+
+/// One more request in which the effort was met; none where there is no effort, or the number would be too great.
+fn one_more(effort: Option<u32>, limited: u64) -> Option<u64>
+    ensures next { IfSome result (λ n. n ≡ limited + 1) }
+    ensures bounded { IfSome result (λ n. effort ≢ None) }
+{
+    match effort {
+        Some(_) => limited.checked_add(1),
+        None => None,
+    }
+}
+
 /// Searches for a shortest path, or one that is late by no more than a slack, by fields that are lent to it, and counts one
-/// as kept for each slot of its claim. When it is dropped, its claim gives the slots back.
+/// as kept for each slot of its claim. Where the search takes more expansions than its effort, it goes the patient way, and
+/// counts that. When it is dropped, its claim gives the slots back.
 #[derive(Drop)]
 pub struct Sharing {
     grid: Arc<Grid, Global>,
@@ -32,6 +56,9 @@ pub struct Sharing {
     share: Share,
     memory: SearchMemory,
     slack: u32,
+    effort: Option<u32>,
+    limited: u64,
+    expanded: u64,
 }
 
 impl Model for Sharing {
@@ -40,7 +67,7 @@ impl Model for Sharing {
 
     ghost Value = { Sharer };
 
-    ghost view = { λ n. record { grid = n.grid.value; claim = n.claim; kept = kept_stops n.share; slack = n.slack } };
+    ghost view = { λ n. record { grid = n.grid.value; claim = n.claim; kept = kept_stops n.share; slack = n.slack; effort = n.effort; limited = n.limited; expanded = n.expanded } };
 
     ghost invariant = { λ n. HasShare n.claim n.share };
 }
@@ -55,6 +82,8 @@ impl Sharing {
         ensures claim { IfOk result (λ n. n.claim ≡ claim) }
         ensures kept { IfOk result (λ n. n.kept ≡ []) }
         ensures slack { IfOk result (λ n. n.slack ≡ 0) }
+        ensures effort { IfOk result (λ n. n.effort ≡ None) }
+        ensures limited { IfOk result (λ n. n.limited ≡ 0) }
     {
         let Some(most) = NonZeroUsize::new(claim.amount() as usize) else {
             unreachable!()
@@ -66,14 +95,38 @@ impl Sharing {
             share,
             memory: SearchMemory::empty(alloc),
             slack: 0,
+            effort: None,
+            limited: 0,
+            expanded: 0,
         })
     }
 
     /// The same planner, whose paths may be late by this many steps.
     pub fn with_slack(self, slack: u32) -> Sharing
-        ensures { result ≡ record { grid = self.grid; claim = self.claim; kept = self.kept; slack = slack } }
+        ensures { result ≡ record { grid = self.grid; claim = self.claim; kept = self.kept; slack = slack; effort = self.effort; limited = self.limited; expanded = self.expanded } }
     {
         Sharing { slack, ..self }
+    }
+
+    /// The same planner, whose requests may take this many expansions each, or as many as they need.
+    pub fn with_effort(self, effort: Option<u32>) -> Sharing
+        ensures { result ≡ record { grid = self.grid; claim = self.claim; kept = self.kept; slack = self.slack; effort = effort; limited = self.limited; expanded = self.expanded } }
+    {
+        Sharing { effort, ..self }
+    }
+
+    /// In how many requests the effort was met, so that the planner went the patient way.
+    pub fn limited(&self) -> u64
+        ensures { result ≡ self.now.limited }
+    {
+        self.limited
+    }
+
+    /// How many expansions the last request took.
+    pub fn expanded(&self) -> u64
+        ensures { result ≡ self.now.expanded }
+    {
+        self.expanded
     }
 
     /// How many distance fields it counts as kept at the moment: no more than its slots.
@@ -117,28 +170,44 @@ impl Plans for Sharing {
         ensures grid_stays { self.new.grid ≡ self.old.grid }
         ensures claim_stays { self.new.claim ≡ self.old.claim }
         ensures slack_stays { self.new.slack ≡ self.old.slack }
+        ensures effort_stays { self.new.effort ≡ self.old.effort }
         ensures fits_stays { (g : Floor) → same_floor self.new.grid g ≡ same_floor self.old.grid g }
         ensures slots_stay { claim_amount self.new.claim ≡ claim_amount self.old.claim }
         ensures room_stays { room fields.new ≡ room fields.old }
         ensures stored_stays { stored_grid fields.new ≡ stored_grid fields.old }
         ensures lawful { IfOk result (IsLawful scene.now.grid.now scene.now.nofollow scene.now.paths.now scene.now.agent (legs duty.entry) (Serves duty.entry)) }
-        ensures late { IfOk result (HasNoShorter scene.now.grid.now scene.now.nofollow scene.now.paths.now scene.now.agent (Serves duty.entry) self.old.slack) }
-        ensures none { IfErr result (λ fault. fault ≡ PlanFault.NoPath → HasNoService scene.now.grid.now scene.now.nofollow scene.now.paths.now scene.now.agent (Serves duty.entry)) }
+        ensures late { self.new.limited ≡ self.old.limited → IfOk result (HasNoShorter scene.now.grid.now scene.now.nofollow scene.now.paths.now scene.now.agent (Serves duty.entry) self.old.slack) }
+        ensures none { self.new.limited ≡ self.old.limited → IfErr result (λ fault. fault ≡ PlanFault.NoPath → HasNoService scene.now.grid.now scene.now.nofollow scene.now.paths.now scene.now.agent (Serves duty.entry)) }
         ensures no_path { IfErr result (λ fault. fault ≡ PlanFault.NoPath → HasNoClearWay scene.now.grid.now scene.now.paths.now scene.now.agent (Serves duty.entry)) }
+        ensures patient { self.new.limited ≢ self.old.limited → IfOk result (IsPatientPath scene.now.grid.now scene.now.paths.now scene.now.agent duty.entry) }
+        ensures expanded { IfSome self.old.effort (λ most. self.new.expanded ≤ most) }
+        ensures limited { self.new.limited ≢ self.old.limited → self.old.effort ≡ Some self.new.expanded }
+        ensures unlimited { self.old.effort ≡ None → self.new.limited ≡ self.old.limited }
     {
         let slack = u64::from(self.slack);
-        match duty {
-            Duty::Deliver { stops } => plan_delivery(
-                alloc,
-                fields,
-                &mut self.share,
-                &mut self.memory,
-                scene,
-                stops,
-                slack,
-            ),
-            Duty::Park { allowed } => {
-                plan_parking(alloc, &mut self.memory, scene, allowed, slack)
+        let most = most_of(self.effort);
+        let mut left = most;
+        let found = search_for(
+            alloc,
+            fields,
+            &mut self.share,
+            &mut self.memory,
+            scene,
+            duty,
+            slack,
+            &mut left,
+        );
+        self.expanded = most - left;
+        match found {
+            Ok(path) => Ok(path),
+            Err(Fault::NoPath) => Err(PlanFault::NoPath),
+            Err(Fault::NoMemory) => Err(PlanFault::NoMemory),
+            Err(Fault::Effort) => {
+                let Some(limited) = one_more(self.effort, self.limited) else {
+                    return Err(PlanFault::NoMemory);
+                };
+                self.limited = limited;
+                plan_patiently(alloc, scene, duty)
             }
         }
     }

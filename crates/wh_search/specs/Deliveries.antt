@@ -5,7 +5,7 @@ use Rattle.wh_grid.specs.Grids.{Floor, passable_cells}
 use Rattle.wh_resv.specs.Others.{Others}
 use Rattle.wh_path.specs.Paths.{horizon, at, end, last_index, IsWalk, IsFree, cell_at, VisitsInOrder}
 use Rattle.wh_search.specs.declared.fault.Fault.{Fault}
-use Rattle.wh_search.specs.declared.fault.Fault.TheVariants.{NoPath, NoMemory}
+use Rattle.wh_search.specs.declared.fault.Fault.TheVariants.{NoPath, NoMemory, Effort}
 
 -- a path that delivers, however long: a walk from loc that is at the stops in order and ends at the last one, free of all others for ever
 pub record IsDelivery (g : Floor) (others : Others) (loc : Cell) (stops : List Cell) (p : List Cell) : Type 0 where
@@ -38,3 +38,4 @@ abbrev pub IfNoPath : {T : Type 0} → Result T Fault → Type 0 → Type 0
 IfNoPath (Ok p) P = ⊤
 IfNoPath (Err NoPath) P = P
 IfNoPath (Err NoMemory) P = ⊤
+IfNoPath (Err Effort) P = ⊤

@@ -2,8 +2,8 @@
 //! heuristic says.
 //!
 //! Proved: a path that the descent finds is valid and none, however long, ends earlier; where it finds none, each has
-//! more steps than the heuristic at the start, or as many where the descent was given up; kept memory has room for at
-//! most 8,192 entries (`find_straight`, `straight_or_bound`, `try_straight`, `first_end`, `SearchMemory`).
+//! more steps than the heuristic at the start, or as many where the descent was given up; it expands no more states than
+//! are left; kept memory has room for at most 8,192 entries (`find_straight`, `straight_or_bound`, `try_straight`, `first_end`, `SearchMemory`).
 #![tactic(auto)]
 
 pub mod errand;
@@ -16,6 +16,6 @@ pub mod noted;
 mod straight;
 mod waits;
 
-pub use fault::Fault;
+pub use fault::{Fault, Unfinished};
 pub use memory::{MOST_KEPT, SearchMemory};
 pub use straight::{find_straight, straight_or_bound, try_straight};

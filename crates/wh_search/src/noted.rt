@@ -1,7 +1,7 @@
 //! States that were noted.
 #![tactic(auto)]
 
-ghost use Rattle.std.specs.Prelude.{◌≡◌, ℕ, ◌+◌, ◌*◌, ◌<◌, ◌≤◌, ◌⊎◌, ◌↔◌, IsTrue, IfOk, OnOk, [], length, Contains};
+ghost use Rattle.std.specs.Prelude.{◌≡◌, ℕ, ◌+◌, ◌*◌, ◌<◌, ◌≤◌, ◌^◌, ◌⊎◌, ◌↔◌, IsTrue, IfOk, OnOk, [], length, Contains};
 ghost use Rattle.wh_grid.specs.declared.cell.Cell.{Cell};
 ghost use Rattle.wh_search.specs.Rooms.{noted_room};
 ghost use Rattle.wh_search.specs.Ways.{state_number};
@@ -106,7 +106,8 @@ impl Noted {
 
     /// Forgets all, and keeps the room.
     pub(crate) fn forget(&mut self)
-        ensures { self.new.slots.items ≡ [] }
+        ensures slots { self.new.slots.items ≡ [] }
+        ensures count { self.new.count ≡ 0 }
     {
         self.slots.clear();
         self.count = 0;
@@ -138,7 +139,8 @@ impl Noted {
     /// Makes the table larger: as small as at first where it has no place, and else four times as large.
     #[inline(never)]
     fn grow(&mut self, alloc: Global) -> Result<(), AllocError>
-        ensures { OnOk result ((n : ℕ) → Contains self.new.slots.items n → (n ≡ 0) ⊎ Contains self.old.slots.items n) }
+        ensures numbers { OnOk result ((n : ℕ) → Contains self.new.slots.items n → (n ≡ 0) ⊎ Contains self.old.slots.items n) }
+        ensures count { OnOk result (self.new.count ≡ self.old.count) }
     {
         if self.slots.is_empty() {
             self.slots.reserve(1024)?;
@@ -158,9 +160,11 @@ impl Noted {
     /// Notes a number. At most half of the places are taken.
     #[inline(always)]
     pub(crate) fn note(&mut self, alloc: Global, number: u64) -> Result<(), AllocError>
-        ensures { OnOk result ((n : ℕ) → Contains self.new.slots.items n → (n ≡ 0) ⊎ ((n ≡ number) ⊎ Contains self.old.slots.items n)) }
+        requires { self.old.count + 1 < 2 ^ 64 }
+        ensures numbers { OnOk result ((n : ℕ) → Contains self.new.slots.items n → (n ≡ 0) ⊎ ((n ≡ number) ⊎ Contains self.old.slots.items n)) }
+        ensures count { OnOk result (self.new.count ≡ self.old.count + 1) }
     {
-        self.count = self.count.wrapping_add(1);
+        self.count += 1;
         if self.count > self.slots.len() / 2 {
             self.grow(alloc)?;
         }

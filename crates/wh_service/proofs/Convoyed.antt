@@ -1,5 +1,5 @@
 -- A run with vehicles over its two files.
-use Rattle.std.proofs.Common.{◌≡◌, ◌≤◌, ℕ, Bool, List, length, inl, inr, refl, ◌∙◌, subst, ap, Option, Result}
+use Rattle.std.proofs.Common.{◌≡◌, ◌≤◌, ℕ, Bool, List, length, inl, inr, refl, ◌∙◌, subst, sym, ap, Option, Result}
 use Rattle.std.specs.Prelude.{IfSome, true}
 use Rattle.std.specs.declared.alloc.AllocError.{AllocError}
 use Rattle.std.proofs.KnownBytes.{Keeps-refl}
@@ -8,6 +8,7 @@ use Rattle.wh_points.specs.Points.{Site}
 use Rattle.wh_points.specs.Formed.{IsFormed}
 use Rattle.wh_lines.specs.Input.{Input}
 use Rattle.wh_replay.specs.declared.asker.Asker.{Asker}
+use Rattle.wh_core.specs.States.{State}
 use Rattle.wh_core.specs.Laws.{IsOpening}
 use Rattle.wh_core.specs.Steps.{Run}
 use Rattle.wh_judge.specs.Drafts.{AllServed, Seen}
@@ -46,28 +47,31 @@ both log held arrivals came p q = ap (λ (h : Option (List ℕ)). record_of h ca
 
 module _ {X : Type 0} (fits : X → Floor → Bool) (count : X → ℕ) (asker : Asker) (bound : ℕ) (before after : Input) (book : Seen) (spares : List X) (new : Seen) (crew : Crew)
     (had has : Option (List ℕ)) (begun holds synced : Held) where
-  -- lines that are served change no site
-  same_site : (rest : List X) (d : Drive) → RidesToEnd fits count asker bound before after book spares d new rest crew had has begun holds synced → new.site ≡ book.site
-  same_site rest d r =
+  -- lines that are served change no site, and the book began as it did
+  same_start : (rest : List X) (d : Drive) → RidesToEnd fits count asker bound before after book spares d new rest crew had has begun holds synced →
+      (new.site ≡ book.site) × (new.opening ≡ book.opening)
+  same_start rest d r =
       let c = r.rides.convoys in
       let old_depot = depot book spares r.rides.set in
       let new_depot = depot new rest r.rides.final in
-      (each_script_happens fits count asker bound _ old_depot new_depot c.texts (kept_is_served fits count asker bound _ old_depot new_depot c.texts c.kept c.lines.all)).site
+      let happened = each_script_happens fits count asker bound _ old_depot new_depot c.texts (kept_is_served fits count asker bound _ old_depot new_depot c.texts c.kept c.lines.all) in
+      (happened.site, happened.opening)
 
 module _ {X : Type 0} (fits : X → Floor → Bool) (count : X → ℕ) (asker : Asker) (again : Option ℕ) (bound : ℕ) (before after : Input) (start : Start) (stands : Stood) (spares rest : List X)
     (some : SomeInStep start.book stands.order) (final : Seen) (crew : Crew) (had replied : Option (List ℕ)) (files holds synced : Held)
     (runs : RidesOn fits count asker again bound before after start.book stands spares final rest crew had replied files holds synced)
-    (opening : IsOpening final.site final.opening) (run : Run final.site final.opening final.history final.state) (served : IsFormed final.site → AllServed final.history) where
+    (opening : IsOpening start.book.site start.book.opening) (run : Run final.site final.opening final.history final.state) (served : IsFormed final.site → AllServed final.history) where
   pub goes_to_end : GoesToEnd fits count asker again bound before after start stands spares final crew had replied files holds synced
   goes_to_end =
       let r = runs.rides some.0 some.1 in
+      let same = same_start fits count asker bound before after start.book spares final crew runs.counted replied runs.begun holds synced rest some.0 r in
       record {
         rest = rest;
         runs = runs;
         drive = r.rides.final;
         manned = r.rides.manned;
-        site_is = same_site fits count asker bound before after start.book spares final crew runs.counted replied runs.begun holds synced rest some.0 r;
-        is_opening = opening;
+        site_is = same.0;
+        is_opening = subst (λ (s : Site). IsOpening s final.opening) (sym same.0) (subst (λ (o : State). IsOpening start.book.site o) (sym same.1) opening);
         run = run;
         served = served;
       }

@@ -13,6 +13,8 @@ use Rattle.wh_service.specs.Fleets.{IsEquipped}
 use Rattle.std.specs.List.{count_by}
 use Rattle.wh_lines.specs.Input.{Input}
 use Rattle.wh_grid.specs.Grids.{Floor}
+use Rattle.wh_core.specs.States.{State}
+use Rattle.wh_core.specs.Laws.{IsOpening}
 use Rattle.wh_judge.specs.Drafts.{Seen}
 use Rattle.wh_replay.specs.declared.asker.Asker.{Asker}
 use Rattle.wh_drive.specs.declared.vehicle.Vehicle.{Vehicle}
@@ -22,8 +24,16 @@ use Rattle.wh_dispatch.specs.Crews.{Crew, IsManned, is_under_way}
 use Rattle.wh_dispatch.specs.Lines.{Depot}
 use Rattle.wh_dispatch.specs.Scripts.{Dispatches, DispatchesFrom, Stops, StopsFrom}
 use Rattle.wh_dispatch.specs.declared.script.DispatchFault.{DispatchFault}
+use Rattle.wh_dispatch.proofs.Together.{each_script_happens}
 use Rattle.wh_service.specs.Late.{setting_out, Drives, IsWhyUndriven, IsWhyUnservedLate, ServesLate, way_text}
 use Rattle.wh_service.proofs.Playing.{Gives}
+
+-- where a run is from an opening it stays so
+pub still_opening : {X : Type 0} (fits : X → Floor → Bool) (count : X → ℕ) (asker : Asker) (bound : ℕ) (before after : Input) (old new : Depot X) (had has : Option (List ℕ)) →
+    Dispatches fits count asker bound before after old new had has → IsOpening old.book.site old.book.opening → IsOpening new.book.site new.book.opening
+still_opening fits count asker bound before after old new had has d is =
+    let happened = each_script_happens fits count asker bound _ old new d.texts d.serves in
+    subst (λ (s : Site). IsOpening s new.book.opening) (sym happened.site) (subst (λ (o : State). IsOpening old.book.site o) (sym happened.opening) is)
 
 -- served from the opening on
 pub record Driven {X : Type 0} (fits : X → Floor → Bool) (count : X → ℕ) (asker : Asker) (bound ahead : ℕ) (before after : Input) (book : Seen) (spares : List X) (new : Seen) (next : Crew)

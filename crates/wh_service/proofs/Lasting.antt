@@ -31,7 +31,9 @@ use Rattle.wh_service.proofs.Undelivered.{ok_joined}
 use Rattle.wh_replay.specs.declared.asker.Asker.{Asker}
 use Rattle.wh_log.specs.declared.version.Version.{Version}
 use Rattle.wh_lines.specs.Input.{Input}
-use Rattle.wh_core.specs.Laws.{IsOpening}
+use Rattle.wh_core.specs.States.{State}
+use Rattle.wh_core.specs.Laws.{IsOpening, IsBeginningOnTheirWays}
+use Rattle.wh_continue.proofs.Opened.{start_opening}
 use Rattle.wh_core.specs.Steps.{Run}
 use Rattle.wh_points.specs.Formed.{IsFormed}
 use Rattle.wh_options.specs.declared.chosen.Tail.{Tail}
@@ -63,6 +65,14 @@ site_at site slots text book version (Some n) starts = starts.goes_on.site_is
 
 pub start_site : (site : Site) (slots text : List ℕ) (start : Start) → StartsIn site slots text start → start.book.site ≡ site
 start_site site slots text start starts = site_at site slots text start.book start.version start.bytes starts
+
+-- what it starts from is a run from an opening
+pub opens_from : (fleet : Fleet) (site : Site) (file : Option (List ℕ)) (start : Start) → StartsFrom fleet site file start → IsBeginningOnTheirWays start.book.site start.book.opening →
+    IsOpening start.book.site start.book.opening
+opens_from fleet site file start from begins =
+    let at = start_site site (first_slots fleet site) from.text start from.starts in
+    subst (λ (s : Site). IsOpening s start.book.opening) (sym at)
+    (start_opening site (first_slots fleet site) from.text start from.starts (subst (λ (s : Site). IsBeginningOnTheirWays s start.book.opening) at begins))
 
 starts_of : (fleet : Fleet) (site : Site) (start : Start) (file : Option (List ℕ)) → StartsFrom fleet site file start → IsStartOf file start
 starts_of fleet site start None from = tt
@@ -190,12 +200,14 @@ module _ {X : Type 0} (fits : X → Floor → Bool) (count : X → ℕ) (asker :
           (subst (λ (t : Asker). RunsOn fits count t again deliver between new begun.book spares final rest had replied held synced holds) same ran))
 
       -- it was, and what is to follow the replies does
-      pub serves_kept : IsOpening final.site final.opening → Run final.site final.opening final.history final.state → (IsFormed final.site → AllServed final.history)
+      pub serves_kept : IsBeginningOnTheirWays final.site final.opening → Run final.site final.opening final.history final.state → (IsFormed final.site → AllServed final.history)
           → OnOk said (Appends replied has (tail_after tail final.opening final.history final.state))
           → IfOk said (λ t. report t ≡ told_open deliver final.state)
           → IfOk said (λ t. ServesKept fits count asker gives fleet deliver tail again anew old new had has file synced holds beside (report t))
       serves_kept opening run served follows tells =
           let is : final.site ≡ site = (grows deliver asker 999999999 runs.served final runs.delivers.added runs.answered replied runs.delivers.delivers).1.site ∙ runs.replays.serves.output.site ∙ start_site site (first_slots fleet site) from.text start from.starts in
+          let same_opening : final.opening ≡ start.book.opening = (grows deliver asker 999999999 runs.served final runs.delivers.added runs.answered replied runs.delivers.delivers).1.opening ∙ runs.replays.serves.output.opening in
+          let begins = subst (λ (o : State). IsBeginningOnTheirWays site o) same_opening (subst (λ (at : Site). IsBeginningOnTheirWays at final.opening) is opening) in
           ok_joined said _ _ _ (λ t after open_is. record {
             site = site;
             between = between;
@@ -211,7 +223,7 @@ module _ {X : Type 0} (fits : X → Floor → Bool) (count : X → ℕ) (asker :
             open_is = open_is;
             follows = after;
             site_is = is;
-            is_opening = subst (λ (at : Site). IsOpening at final.opening) is opening;
+            is_opening = subst (λ (o : State). IsOpening site o) (sym same_opening) (start_opening site (first_slots fleet site) from.text start from.starts begins);
             run = subst (λ (at : Site). Run at final.opening final.history final.state) is run;
             served = subst (λ (at : Site). IsFormed at → AllServed final.history) is served;
           }) follows tells

@@ -27,12 +27,13 @@ pub record MakesPlanners {X : Type 0} (fits : X → Floor → Bool) (count : X �
 abbrev pub IsOfFleet : Fleet → Type 0
 IsOfFleet fleet = (2 ≤ fleet.slots) × (fleet.slots ≤ 64)
 
--- the planner was made of the fleet's kind and slack, this grid, and a claim of the fleet's slots on this bank
+-- the planner was made of the fleet's kind, slack and effort, this grid, and a claim of the fleet's slots on this bank
 pub record IsMember {X : Type 0} (gives : PlannerParts → Result X AllocError → Type 0) (fleet : Fleet) (grid : Floor) (bank : Bank) (planner : X) : Type 0 where
   pub parts : PlannerParts
   pub made : gives parts (Ok planner)
   pub kind_is : parts.kind ≡ fleet.planner
   pub slack_is : parts.slack ≡ fleet.slack
+  pub effort_is : parts.effort ≡ fleet.effort
   pub grid_is : arc_value parts.grid ≡ grid
   pub slots_are : claim_amount parts.claim ≡ fleet.slots
   pub bank_is : claim_bank parts.claim ≡ bank

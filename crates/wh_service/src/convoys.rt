@@ -2,6 +2,7 @@
 
 ghost use Rattle.std.specs.Prelude.{◌≡◌, ◌≤◌, false, IfErr, IfOk, IfSome, length};
 ghost use Rattle.std.specs.Arc.{arc_value};
+ghost use Rattle.wh_core.specs.Laws.{IsOpening};
 ghost use Rattle.wh_dispatch.specs.SettingOut.{SomeInStep};
 ghost use Rattle.wh_continue.specs.Besides.{StandsBeside};
 ghost use Rattle.wh_continue.specs.Running.{IsStartOf};
@@ -108,6 +109,7 @@ fn stand_over<L: LogFile>(
     book: &Book,
     ahead: u64,
 ) -> Result<Stood, DriveTrouble>
+    requires opening { IsOpening book.now.site book.now.opening }
     requires some { 1 ≤ ahead }
     ensures ok { IfOk result (StandsOver book.now ahead (L.contents arrivals.old)) }
     ensures fault { IfErr result (IsWhyNotOver book.now ahead (L.contents arrivals.old)) }
@@ -152,6 +154,7 @@ fn start_convoy<L: LogFile, P: Planner, F: Fn(PlannerParts) -> Result<P, AllocEr
     ensures has_log { IfOk result (λ r. HasLog options.now.anew r.1 r.0) }
     ensures within { IfOk result (λ r. IfSome options.now.told (λ first. first ≤ length r.0.book.history)) }
     ensures over { IfOk result (λ r. StandsOver r.0.book ahead (L.contents arrivals.old) r.2) }
+    ensures opening { IfOk result (λ r. IsOpening r.0.book.site r.0.book.opening) }
     ensures in_step { IfOk result (λ r. SomeInStep r.0.book r.2.order) }
     ensures seated { IfOk result (λ r. IsSeated (F.post make.now) options.now.fleet setting.grid r.0.book.state.slots r.3.0.items r.3.1.items) }
     ensures fault { IfErr result (IsWhyNoConvoy options.now.fleet options.now.told options.now.anew ahead setting (record { log = L.contents file.old; arrivals = L.contents arrivals.old }) (L.contents beside.old) text.now) }
@@ -166,6 +169,8 @@ fn start_convoy<L: LogFile, P: Planner, F: Fn(PlannerParts) -> Result<P, AllocEr
         Ok(started) => started,
         Err(trouble) => return Err(DriveTrouble::Plain(trouble)),
     };
+    // Called for what its contract says.
+    let _run = start.book.history();
     let stood = match stand_over(alloc, arrivals, &start.book, ahead) {
         Ok(stood) => stood,
         Err(trouble) => {
@@ -200,6 +205,7 @@ fn go_on<R: Read, W: Write, L: LogFile, P: Planner>(
     spares: &mut Vec<P>,
 ) -> Result<u32, Trouble>
     requires starts { IsStartOf (L.contents file.old) start }
+    requires opening { IsOpening start.book.site start.book.opening }
     requires stand { SomeInStep start.book stood.order }
     ensures ok { IfOk result (λ left. GoesOn P.fits_map P.slot_count (log_asker form) tail again behind lines.old lines.new start stood spares.old.items (W.contents output.old) (W.contents output.new)
         (record { log = L.contents file.old; arrivals = L.contents arrivals.old }) (record { log = L.contents file.new; arrivals = L.contents arrivals.new }) (record { log = L.synced file.new; arrivals = L.synced arrivals.new }) left) }

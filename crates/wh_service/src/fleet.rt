@@ -57,10 +57,11 @@ fn member<P: Planner, F: Fn(PlannerParts) -> Result<P, AllocError>>(
 {
     let claim = claim(bank, seat, fleet.slots)?;
     let grid = Arc::try_clone(grid)?;
-    let (kind, slack) = (fleet.planner, fleet.slack);
+    let (kind, slack, effort) = (fleet.planner, fleet.slack, fleet.effort);
     Ok(make(PlannerParts {
         kind,
         slack,
+        effort,
         grid,
         claim,
     })?)

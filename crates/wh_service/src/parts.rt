@@ -8,13 +8,16 @@ use wh_claims::Claim;
 use wh_grid::Grid;
 use wh_options::PlannerKind;
 
-/// What one planner is made of: its kind, by how many steps its paths may be late where it searches, the grid on which it plans, and a claim that has its slots, 2 to 64 of them.
+/// What one planner is made of: its kind, by how many steps its paths may be late and how many expansions a request may take
+/// where it searches, the grid on which it plans, and a claim that has its slots, 2 to 64 of them.
 #[derive(Drop)]
 pub struct PlannerParts {
     /// The kind of the planner.
     pub kind: PlannerKind,
     /// By how many steps its paths may be late, where it searches.
     pub slack: u32,
+    /// How many expansions one request may take, where it searches and they are bounded.
+    pub effort: Option<u32>,
     /// The grid on which it plans.
     pub grid: Arc<Grid>,
     /// The claim that has its slots.

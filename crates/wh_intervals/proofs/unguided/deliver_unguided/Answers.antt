@@ -16,7 +16,7 @@ returns-clause-lawful c =
     let T : List Cell → Type 0 = IsLeastTour e.grid.now e.others.now e.loc e.via.now e.ends.now in
     let R : List Cell → Type 0 = IsLawful g o c.args.loc stops in
     ok_weaker c.try_straight.result (λ found. IfSome found T) (λ found. IfSome found R)
-    (λ found. some_weaker found T R (λ p h. (task_found g o c.args.loc stops e (Some p) c.requires.stops.0 c.manhattan_errand-errand.ensures.task h).lawful)) c.try_straight.ensures
+    (λ found. some_weaker found T R (λ p h. (task_found g o c.args.loc stops e (Some p) c.requires.stops.0 c.manhattan_errand-errand.ensures.task h).lawful)) c.try_straight.ensures.found
 
 pub returns-clause-least : goal.returns-clause-least
 returns-clause-least c =
@@ -27,4 +27,4 @@ returns-clause-least c =
     let T : List Cell → Type 0 = IsLeastTour e.grid.now e.others.now e.loc e.via.now e.ends.now in
     let R : List Cell → Type 0 = λ p. (q : List Cell) → IsDelivery g o c.args.loc stops q → last_index p ≤ last_index q in
     ok_weaker c.try_straight.result (λ found. IfSome found T) (λ found. IfSome found R)
-    (λ found. some_weaker found T R (λ p h. (task_found g o c.args.loc stops e (Some p) c.requires.stops.0 c.manhattan_errand-errand.ensures.task h).least)) c.try_straight.ensures
+    (λ found. some_weaker found T R (λ p h. (task_found g o c.args.loc stops e (Some p) c.requires.stops.0 c.manhattan_errand-errand.ensures.task h).least)) c.try_straight.ensures.found

@@ -11,4 +11,4 @@ returns c = IfOk-weaker c.with_ends.result _ _ (λ made added. record {
   ends_texts = search rules;
   is = added;
 })
-    (c.with_ends.ensures _ (c.in_ok-command-5.ensures _ (c.in_ok-command-4.ensures _ (c.in_ok-command-3.ensures _ (c.in_ok-command-2.ensures _ (c.in_ok-command.ensures _ c.plain_command-command.ensures))))))
+    (c.with_ends.ensures _ (c.in_ok-command-6.ensures _ (c.in_ok-command-5.ensures _ (c.in_ok-command-4.ensures _ (c.in_ok-command-3.ensures _ (c.in_ok-command-2.ensures _ (c.in_ok-command.ensures _ c.plain_command-command.ensures)))))))

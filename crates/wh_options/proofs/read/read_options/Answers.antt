@@ -4,7 +4,7 @@ use Rattle.std.specs.Prelude.{IfErr, IfOk, is_some}
 use Rattle.std.proofs.lemmas.Result.{IfOk-weaker}
 use Rattle.clap.specs.Words.{Row, Text, first_of, first_value, found_of, rows_of, subcommand_name_of, subcommand_rows_of}
 use Rattle.clap.specs.declared.parser.matches.ArgMatches.{ArgMatches}
-use Rattle.wh_options.specs.Options.{ReplayClashes, ReplayLacks, SlacksPatient}
+use Rattle.wh_options.specs.Options.{BoundsPatient, ReplayClashes, ReplayLacks}
 use Rattle.wh_options.specs.Reads.{IsTold, Reads, ReadsLine, ReadsLive, ReadsReplay, clients_in, homes_of, kind_of_mistake}
 use Rattle.wh_options.specs.declared.chosen.Options.{Options}
 use Rattle.wh_options.specs.declared.mistake.Mistake.{Mistake}
@@ -63,7 +63,7 @@ returns-in-Some-mistake_of_live-clause-mistaken c = λ name rows e.
     let same = given_are c.args.matches.now live.live.now name rows e live.ensures.rows in
     let named = is_named c.args.matches.now name (codes "live") rows e (live.ensures.found.0 refl) in
     let clash = c.in-Some-mistake_of_live.ensures in
-    inr (inl (inr (inr (named, subst (λ (f : Text → Option Text). SlacksPatient f) (λ i id. same id i) clash.0)), clash.1))
+    inr (inl (inr (inr (named, subst (λ (f : Text → Option Text). BoundsPatient f) (λ i id. same id i) clash.0)), clash.1))
 
 pub returns-in-None-mistake_of_live-clause-read : goal.returns-in-None-mistake_of_live-clause-read
 returns-in-None-mistake_of_live-clause-read c = λ name rows e.
@@ -71,7 +71,7 @@ returns-in-None-mistake_of_live-clause-read c = λ name rows e.
     let same = given_are c.args.matches.now live.live.now name rows e live.ensures.rows in (
       is_named c.args.matches.now name (codes "live") rows e (live.ensures.found.0 refl),
       subst (λ (f : Text → Option Text). ReadsLive f c.live_options.result) (λ i id. same id i) c.live_options.ensures,
-      subst (λ (f : Text → Option Text). SlacksPatient f → ⊥) (λ i id. same id i) c.in-None-mistake_of_live.ensures,
+      subst (λ (f : Text → Option Text). BoundsPatient f → ⊥) (λ i id. same id i) c.in-None-mistake_of_live.ensures,
     )
 
 pub returns-in-Some-subcommand_matches-2-clause-read : goal.returns-in-Some-subcommand_matches-2-clause-read

@@ -7,7 +7,7 @@ returns-in-Found-clause-bound c = λ q t. omega (arith, least_whole c.args.erran
 
 pub returns-in-Longer-clause-bound : goal.returns-in-Longer-clause-bound
 returns-in-Longer-clause-bound c = λ q t.
-    let late = (rw c.in-Longer.is at c.in_ok-path.ensures) q t in
+    let late = (rw c.in-Longer.is at c.in_ok-path.ensures.outcome) q t in
     omega (arith, late, c.estimate-whole.ensures, c.saturating_add.ensures)
 
 pub returns-in-GivenUp-clause-bound : goal.returns-in-GivenUp-clause-bound

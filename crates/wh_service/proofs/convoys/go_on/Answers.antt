@@ -10,7 +10,7 @@ returns-in-Ok-written-clause-ok g c = record {
   final = c.in-Ok.ran.0.book;
   crew = c.in-Ok.ran.1;
   replied = g.W.Write.contents c.ride_on-ran.new.writer;
-  goes = goes_to_end _ _ _ _ _ _ _ c.args.start c.args.stood _ _ c.requires.stand c.in-Ok.ran.0.book c.in-Ok.ran.1 _ _ _ _ _ c.in-Ok.ensures.runs c.history-history.ensures.opening c.history-history.ensures.run c.history-history.ensures.served;
+  goes = goes_to_end _ _ _ _ _ _ _ c.args.start c.args.stood _ _ c.requires.stand c.in-Ok.ran.0.book c.in-Ok.ran.1 _ _ _ _ _ c.in-Ok.ensures.runs c.requires.opening c.history-history.ensures.run c.history-history.ensures.served;
   follows = c.in-Ok-written.ensures.ok;
   left_is = c.on_their_way.ensures;
 }
@@ -20,6 +20,6 @@ returns-clause-fault g c = inr (record {
   final = c.in-Ok.ran.0.book;
   crew = c.in-Ok.ran.1;
   replied = g.W.Write.contents c.ride_on-ran.new.writer;
-  goes = goes_to_end _ _ _ _ _ _ _ c.args.start c.args.stood _ _ c.requires.stand c.in-Ok.ran.0.book c.in-Ok.ran.1 _ _ _ _ _ c.in-Ok.ensures.runs c.history-history.ensures.opening c.history-history.ensures.run c.history-history.ensures.served;
+  goes = goes_to_end _ _ _ _ _ _ _ c.args.start c.args.stood _ _ c.requires.stand c.in-Ok.ran.0.book c.in-Ok.ran.1 _ _ _ _ _ c.in-Ok.ensures.runs c.requires.opening c.history-history.ensures.run c.history-history.ensures.served;
   why = c.in-Err-written.ensures.fault;
 })

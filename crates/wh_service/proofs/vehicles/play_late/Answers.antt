@@ -2,7 +2,6 @@ use Rattle.std.proofs.Common.{◌∙◌, inl, inr, refl, subst, sym}
 use Rattle.std.specs.Io.KnownBytes.{Appends}
 use Rattle.std.proofs.KnownBytes.{Keeps-refl}
 use Rattle.wh_points.specs.Formed.{IsFormed}
-use Rattle.wh_core.specs.Laws.{IsOpening}
 use Rattle.wh_core.specs.Steps.{Run}
 use Rattle.wh_judge.specs.Drafts.{AllServed, Seen}
 use Rattle.wh_replay.specs.Scripts.{script_asker}
@@ -10,7 +9,7 @@ use Rattle.wh_drive.specs.Drives as drives
 use Rattle.wh_vehicles.specs.Plans.{places}
 use Rattle.wh_dispatch.specs.Crews.{Crew, IsManned}
 use Rattle.wh_service.specs.Tails.{IsWhyNoTail, tail_after}
-use Rattle.wh_service.proofs.Drove.{driven, stopped}
+use Rattle.wh_service.proofs.Drove.{driven, still_opening, stopped}
 use Rattle.wh_service.proofs.Playing.{opened_with}
 use Rattle.wh_service.proofs.vehicles.play_late.Goals as goal
 
@@ -51,7 +50,7 @@ returns-in-Ok-written-clause-ok g c =
         book = book;
         opened = opened_with _ _ _ _ c.in-Ok.warehouse.planners _ c.in-Ok.ensures.site c.in-Ok.ensures.opening c.in-Ok.ensures.history c.in-Ok.ensures.planners c.in-Ok.ensures.tied;
         dispatches = r.dispatches;
-        is_opening = subst (λ (b : Seen). IsOpening b.site b.opening) (sym r.book_is) c.history-history.ensures.opening;
+        is_opening = still_opening _ _ _ _ _ _ _ _ _ _ r.dispatches c.in-Ok.ensures.opens;
         run = subst (λ (b : Seen). Run b.site b.opening b.history b.state) (sym r.book_is) c.history-history.ensures.run;
         served = subst (λ (b : Seen). IsFormed b.site → AllServed b.history) (sym r.book_is) c.history-history.ensures.served;
       };
@@ -75,7 +74,7 @@ returns-clause-fault g c =
         book = book;
         opened = opened_with _ _ _ _ c.in-Ok.warehouse.planners _ c.in-Ok.ensures.site c.in-Ok.ensures.opening c.in-Ok.ensures.history c.in-Ok.ensures.planners c.in-Ok.ensures.tied;
         dispatches = r.dispatches;
-        is_opening = subst (λ (b : Seen). IsOpening b.site b.opening) (sym r.book_is) c.history-history.ensures.opening;
+        is_opening = still_opening _ _ _ _ _ _ _ _ _ _ r.dispatches c.in-Ok.ensures.opens;
         run = subst (λ (b : Seen). Run b.site b.opening b.history b.state) (sym r.book_is) c.history-history.ensures.run;
         served = subst (λ (b : Seen). IsFormed b.site → AllServed b.history) (sym r.book_is) c.history-history.ensures.served;
       };

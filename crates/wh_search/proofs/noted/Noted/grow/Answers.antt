@@ -6,8 +6,8 @@ use Rattle.wh_search.proofs.Kept.{take_front}
 use Rattle.wh_search.proofs.noted.Noted.grow.Goals as goal
 use Rattle.wh_search.proofs.noted.Noted.grow.Goals.{then-number-ne0, else-number-ne0}
 
-pub returns-then-is_empty : goal.returns-then-is_empty
-returns-then-is_empty c = λ n h.
+pub returns-then-is_empty-clause-numbers : goal.returns-then-is_empty-clause-numbers
+returns-then-is_empty-clause-numbers c = λ n h.
     elim (Contains-append_cases c.reserve.new.self.items (replicate 256 0) n (subst (λ (xs : List ℕ). Contains xs n) c.in_ok-extend_from_slice.ensures.items h)) [
       | inl x ↦ inr (subst (λ (xs : List ℕ). Contains xs n) c.in_ok-reserve.ensures.items x)
       | inr x ↦ inl (All-contains (λ m. m ≡ 0) (replicate 256 0) n (All-replicate (λ m. m ≡ 0) 256 0 refl) x)
@@ -27,8 +27,8 @@ loop-number-preserved c = elim c.if-number-ne0.branch [
   | else-number-ne0 w ↦ subst (λ (v : Vec ℕ Global). (n : ℕ) → Contains v.items n → (n ≡ 0) ⊎ Contains c.deref-number-items.result.now n) (sym w.larger-is) c.loop-number.invariant
 ]
 
-pub returns : goal.returns
-returns c = λ n h. elim (c.loop-number.invariant n h) [
+pub returns-clause-numbers : goal.returns-clause-numbers
+returns-clause-numbers c = λ n h. elim (c.loop-number.invariant n h) [
   | inl x ↦ inl x
   | inr x ↦ inr (subst (λ (xs : List ℕ). Contains xs n) c.deref-number-items.ensures.value x)
 ]
