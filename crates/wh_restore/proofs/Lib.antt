@@ -1,0 +1,4 @@
+pub mod Hearing
+pub mod Flawed
+pub mod Following
+pub mod Finding

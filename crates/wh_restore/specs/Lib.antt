@@ -1,0 +1,5 @@
+pub mod SoundFronts
+pub mod Flaws
+pub mod FirstFlawed
+pub mod Restoring
+pub mod Texts
