@@ -126,12 +126,15 @@ def fleet_words(chance):
             words.append(f'--{name}={chance.choice(values)}')
     if '--planner=patient' not in words and chance.random() < 0.3:
         words.append(f'--slack={chance.choice([0, 1, 4, 1000])}')
+    if '--planner=patient' not in words and chance.random() < 0.3:
+        words.append(f'--effort={chance.choice([1000, 1001, 20000, 1000000000])}')
     return words
 
 
 def wrong_words(chance):
     return chance.choice([[], ['go'], ['replay', '--slots', '1'], ['replay', '--slots=65'], ['replay', '--slack=1001'], ['replay', 'x'],
-                          ['live', '--planner=patient', '--slack=4'],
+                          ['live', '--planner=patient', '--slack=4'], ['replay', '--effort=999'],
+                          ['live', '--planner=patient', '--effort=1000'],
                           ['check', '--slots', '4'], ['replay', '--slots', '4', '--slots', '4'],
                           ['verify', '--tail', 'log'], ['live', '--turns', '0'], ['replay', '--bank', '-0'],
                           ['replay', '--replies', 'long'], ['live', '--replies=full'], ['replay', '--told', '0'],

@@ -179,6 +179,24 @@ def test_a_path_is_late_by_the_slack_at_most() -> None:
             told(*words, slack=slack)
 
 
+def test_an_ample_effort_changes_nothing() -> None:
+    for words in (('late', 24, 3, 0), ('late', 16, 1, 1), ('hall', 60, 40), ('sides', 20, 5), ('stops', 24, 8, 1), ('shut', 60)):
+        text = made(*words)
+        assert replayed(text, '--effort', '1000000000') == replayed(text), words
+
+
+def test_beyond_its_effort_a_request_has_a_valid_answer() -> None:
+    others = 0
+    for words in (('late', 100, 7, 0), ('hall', 60, 40), ('ring', 401, 201), ('stops', 128, 8, 2), ('shut', 400)):
+        text = made(*words)
+        lines = replayed(text, '--effort', '1000')
+        log = '\n'.join(lines[lines.index('%%') + 1:])
+        done = subprocess.run([PROGRAM, 'verify'], input='%%\n'.join([*text.split('%%\n')[:2], log]), capture_output=True, text=True)
+        assert done.stdout.startswith('run '), (words, done.stdout, done.stderr)
+        others += lines != replayed(text)
+    assert others, 'the effort was met nowhere'
+
+
 def test_another_ends_beside_the_start() -> None:
     told('beside', 30, 3)
 

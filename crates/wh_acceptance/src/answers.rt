@@ -36,13 +36,15 @@ pub fn served<R: Read + Drop, W: Write>(
         let PlannerParts {
             kind,
             slack,
+            effort,
             grid,
             claim,
         } = parts;
         match kind {
             PlannerKind::Near => {
                 let sharing = Sharing::new(alloc, grid, claim)?;
-                let planner: Box<dyn Planner> = Box::new(alloc, sharing.with_slack(slack))?;
+                let bounded = sharing.with_slack(slack).with_effort(effort);
+                let planner: Box<dyn Planner> = Box::new(alloc, bounded)?;
                 Ok(planner)
             }
             PlannerKind::Patient => {
@@ -54,6 +56,7 @@ pub fn served<R: Read + Drop, W: Write>(
     let fleet = Fleet {
         planner: PlannerKind::Near,
         slack: 0,
+        effort: None,
         slots: 4,
         bank: 1024,
         spares: 0,

@@ -9,3 +9,5 @@ mod devices;
 mod machine;
 #[cfg(test)]
 mod options;
+#[cfg(test)]
+mod serve_options;

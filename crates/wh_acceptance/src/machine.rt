@@ -60,6 +60,7 @@ fn member<P: Planner, F: Fn(PlannerParts) -> Result<P, AllocError>>(
     Ok(make(PlannerParts {
         kind: PlannerKind::Near,
         slack: 0,
+        effort: None,
         grid,
         claim,
     })?)

@@ -1,15 +1,16 @@
-//! The command line from outside: each subcommand, both spellings of an option, and refusals.
+//! The command line from outside: each subcommand, both spellings of an option, and refusals; what `serve` takes is in `serve_options`.
 use clap::error::ErrorKind;
 use std::alloc::{AllocError, Global};
 use std::test::*;
 use wh_options::{
-    CheckOptions, ClientOptions, ClientRights, Fleet, LiveOptions, Options, PlannerKind, Refusal,
-    ReplayOptions, Replies, ServeOptions, Tail, VehicleOptions, VerifyOptions, options, refusal_of,
+    CheckOptions, Fleet, LiveOptions, Options, PlannerKind, Refusal, ReplayOptions, Replies, Tail,
+    VehicleOptions, VerifyOptions, options, refusal_of,
 };
 
-const FLEET: Fleet = Fleet {
+pub(super) const FLEET: Fleet = Fleet {
     planner: PlannerKind::Near,
     slack: 0,
+    effort: None,
     slots: 4,
     bank: 1024,
     spares: 0,
@@ -35,7 +36,7 @@ const LEDGER: ReplayOptions<'static> = ReplayOptions {
 };
 
 /// Words after `warehouse replay`, and the options that they give.
-const REPLAYS: [(&[&str], ReplayOptions<'static>); 23] = [
+const REPLAYS: [(&[&str], ReplayOptions<'static>); 25] = [
     (&[], PLAIN),
     (&["--slots=8", "--tail=ledger", "--replies=full"], LEDGER),
     (
@@ -168,6 +169,27 @@ const REPLAYS: [(&[&str], ReplayOptions<'static>); 23] = [
         },
     ),
     (&["--slack", "0"], PLAIN),
+    (
+        &["--effort=1000", "--slack", "4"],
+        ReplayOptions {
+            fleet: Fleet {
+                slack: 4,
+                effort: Some(1000),
+                ..FLEET
+            },
+            ..PLAIN
+        },
+    ),
+    (
+        &["--effort", "1000000000"],
+        ReplayOptions {
+            fleet: Fleet {
+                effort: Some(1_000_000_000),
+                ..FLEET
+            },
+            ..PLAIN
+        },
+    ),
     (&["--ends", "stops"], PLAIN),
     (
         &["--ends=homes", "--slots=4"],
@@ -182,9 +204,33 @@ const REPLAYS: [(&[&str], ReplayOptions<'static>); 23] = [
 ];
 
 /// Words that are refused, and the kind of the error.
-const MISTAKES: [(&[&str], ErrorKind); 76] = [
+const MISTAKES: [(&[&str], ErrorKind); 82] = [
     (&["replay", "--slack=1001"], ErrorKind::ValueValidation),
     (&["check", "--slack=1"], ErrorKind::UnknownArgument),
+    (&["replay", "--effort=999"], ErrorKind::ValueValidation),
+    (
+        &["serve", "--effort=1000000001"],
+        ErrorKind::ValueValidation,
+    ),
+    (&["verify", "--effort=1000"], ErrorKind::UnknownArgument),
+    (
+        &["replay", "--effort=1000", "--planner=patient"],
+        ErrorKind::ArgumentConflict,
+    ),
+    (
+        &["live", "--planner", "patient", "--effort", "5000"],
+        ErrorKind::ArgumentConflict,
+    ),
+    (
+        &[
+            "serve",
+            "--log=x",
+            "--client=0=a",
+            "--planner=patient",
+            "--effort=4000",
+        ],
+        ErrorKind::ArgumentConflict,
+    ),
     (
         &["replay", "--slack=0", "--planner=patient"],
         ErrorKind::ArgumentConflict,
@@ -363,72 +409,8 @@ const MISTAKES: [(&[&str], ErrorKind); 76] = [
     (&["replay", "--board=b"], ErrorKind::UnknownArgument),
 ];
 
-const NO_RIGHTS: ClientRights = ClientRights {
-    submit: false,
-    token: false,
-    tick: false,
-    replace: false,
-    close: false,
-    stop: false,
-};
-
-const CLIENTS: [ClientOptions<'static>; 3] = [
-    ClientOptions {
-        number: 61,
-        folder: "pipes/a b=c",
-        rights: ClientRights {
-            submit: true,
-            ..NO_RIGHTS
-        },
-    },
-    ClientOptions {
-        number: 0,
-        folder: "ticker",
-        rights: ClientRights {
-            token: true,
-            tick: true,
-            stop: true,
-            ..NO_RIGHTS
-        },
-    },
-    ClientOptions {
-        number: 7,
-        folder: "boss",
-        rights: ClientRights {
-            submit: true,
-            token: true,
-            tick: true,
-            replace: true,
-            close: true,
-            stop: false,
-        },
-    },
-];
-
-/// Words for clients, after `warehouse serve --log=a`, that name none, or not each its own.
-const NO_CLIENTS: [&[&str]; 18] = [
-    &["--client="],
-    &["--client", "c"],
-    &["--client", "=c"],
-    &["--client", "0="],
-    &["--client", "0=:all"],
-    &["--client", "62=c"],
-    &["--client=-1=c"],
-    &["--client=one=c"],
-    &["--client", "0=c:"],
-    &["--client", "0=c:sumbit"],
-    &["--client", "0=c:tick,"],
-    &["--client", "0=c:tick,tick"],
-    &["--client", "0=c:all,tick"],
-    &["--client", "0=c:all,stop"],
-    &["--client", "0=c:stop,stop"],
-    &["--client=0=c", "--client=0=d"],
-    &["--client=0=c", "--client=00=d"],
-    &["--client=0=c", "--client=1=c:tick"],
-];
-
 /// The program's name, followed by these words.
-fn command<'a>(alloc: Global, words: &[&'a str]) -> Result<Vec<&'a str>, AllocError> {
+pub(super) fn command<'a>(alloc: Global, words: &[&'a str]) -> Result<Vec<&'a str>, AllocError> {
     let mut all = Vec::new(alloc);
     all.push("warehouse")?;
     all.extend_from_slice(words)?;
@@ -436,7 +418,7 @@ fn command<'a>(alloc: Global, words: &[&'a str]) -> Result<Vec<&'a str>, AllocEr
 }
 
 /// Whether the words of a command line give these options.
-fn gives(alloc: Global, words: &[&str], wanted: Options<'_>) -> bool {
+pub(super) fn gives(alloc: Global, words: &[&str], wanted: Options<'_>) -> bool {
     match options(alloc, words) {
         Ok(found) => found == wanted,
         Err(_) => false,
@@ -444,7 +426,7 @@ fn gives(alloc: Global, words: &[&str], wanted: Options<'_>) -> bool {
 }
 
 /// Whether the words of a command line are refused as a mistake of this kind.
-fn is_refused(alloc: Global, words: &[&str], kind: ErrorKind) -> bool {
+pub(super) fn is_refused(alloc: Global, words: &[&str], kind: ErrorKind) -> bool {
     match options(alloc, words) {
         Ok(_) => false,
         Err(error) => {
@@ -513,6 +495,7 @@ fn every_option_of_live(rt: HostRuntime) {
         fleet: Fleet {
             planner: PlannerKind::Patient,
             slack: 0,
+            effort: None,
             slots: 64,
             bank: 65536,
             spares: 16,
@@ -522,73 +505,6 @@ fn every_option_of_live(rt: HostRuntime) {
         journal: 1_000_000,
     };
     assert!(rt; gives(rt.alloc(), words.as_slice(), Options::Live(live)));
-}
-
-#[test]
-fn every_option_of_serve(rt: HostRuntime) -> Result<(), Fail> {
-    let words = [
-        "warehouse",
-        "serve",
-        "--client",
-        "61=pipes/a b=c",
-        "--journal=500",
-        "--client=0=ticker:tick,stop,token",
-        "--log",
-        "a.log",
-        "--replies=placed",
-        "--client",
-        "7=boss:all",
-        "--spares=2",
-        "--ends",
-        "homes",
-        "--share=1000000",
-        "--every",
-        "20",
-        "--board=a.log.new",
-        "--board-every=1000",
-    ];
-    let many = ServeOptions {
-        fleet: Fleet {
-            spares: 2,
-            homes: true,
-            ..FLEET
-        },
-        journal: 500,
-        share: Some(1_000_000),
-        replies: Replies::Placed,
-        log: "a.log",
-        anew: false,
-        every: Some(20),
-        board: Some("a.log.new"),
-        board_every: 1000,
-        clients: Vec::from_array(rt.alloc(), CLIENTS)?,
-    };
-    assert!(rt; gives(rt.alloc(), words.as_slice(), Options::Serve(many)));
-    let one = ServeOptions {
-        fleet: FLEET,
-        journal: 1_000_000,
-        share: None,
-        replies: Replies::Short,
-        log: "x",
-        anew: true,
-        every: None,
-        board: None,
-        board_every: 100,
-        clients: Vec::from_array(rt.alloc(), [CLIENTS[0]])?,
-    };
-    let words = ["", "serve", "--log=x", "--new", "--client=61=pipes/a b=c"];
-    assert!(rt; gives(rt.alloc(), words.as_slice(), Options::Serve(one)));
-    Ok(())
-}
-
-#[test]
-fn words_that_name_no_clients(rt: HostRuntime) -> Result<(), Fail> {
-    for words in NO_CLIENTS {
-        let mut all = command(rt.alloc(), &["serve", "--log=a"])?;
-        all.extend_from_slice(words)?;
-        assert!(rt; is_refused(rt.alloc(), all.as_slice(), ErrorKind::ValueValidation));
-    }
-    Ok(())
 }
 
 #[test]

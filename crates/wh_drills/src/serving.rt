@@ -434,6 +434,20 @@ fn comes_again(case: Case, kept: &Option<Kept>, left: &[Left], counts: Option<Co
     }
 }
 
+impl<'a, X: Wait> Bytes<'a, X> {
+    /// Whether both came again as their table says.
+    fn have_come_again(&self, kept: &Option<Kept>) -> bool {
+        let left = self.left.lock(self.rt);
+        comes_again(self.case, kept, left.as_slice(), self.counts())
+    }
+
+    /// Whether the service ended once, and nothing was told or kept.
+    fn have_told_nothing(&self, kept: &Option<Kept>) -> bool {
+        let left = self.left.lock(self.rt);
+        tells_nothing(kept, left.as_slice(), self.counts())
+    }
+}
+
 #[test]
 fn client_comes_again(rt: HostRuntime) -> Result<(), Fail> {
     for case in [CLOSES, STOPS] {
@@ -445,8 +459,7 @@ fn client_comes_again(rt: HostRuntime) -> Result<(), Fail> {
             case.may_stop,
             &doors,
         )?;
-        let left = doors.left.lock(&rt);
-        assert!(rt; comes_again(case, &kept, left.as_slice(), doors.counts()));
+        assert!(rt; doors.have_come_again(&kept));
     }
     Ok(())
 }
@@ -475,7 +488,6 @@ fn tells_nothing(kept: &Option<Kept>, left: &[Left], counts: Option<Counts>) -> 
 fn journal_has_failed(rt: HostRuntime) -> Result<(), Fail> {
     let doors = shut(&rt, rt.alloc(), CLOSES);
     let kept = serve_two::<_, &'static [u8], Vec<u8>, _>(&rt, rt.alloc(), true, false, &doors)?;
-    let left = doors.left.lock(&rt);
-    assert!(rt; tells_nothing(&kept, left.as_slice(), doors.counts()));
+    assert!(rt; doors.have_told_nothing(&kept));
     Ok(())
 }

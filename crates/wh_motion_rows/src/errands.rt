@@ -25,7 +25,7 @@ pub(crate) fn outcome(answer: Result<TimedPath, Fault>) -> Found {
     match answer {
         Ok(path) => Found::Ends(path.remaining()),
         Err(Fault::NoPath) => Found::NoPath,
-        Err(Fault::NoMemory) => Found::NoAnswer,
+        Err(Fault::NoMemory) | Err(Fault::Effort) => Found::NoAnswer,
     }
 }
 
@@ -173,6 +173,7 @@ pub(crate) fn delivered_round(
         Some(Sight::new(&second, MOST_LEVEL)),
     ];
     let mut memory = SearchMemory::empty(alloc);
+    let mut effort = u64::MAX;
     outcome(deliver_round(
         alloc,
         &mut memory,
@@ -183,6 +184,7 @@ pub(crate) fn delivered_round(
         &stops,
         &sights,
         0,
+        &mut effort,
     ))
 }
 
@@ -247,5 +249,6 @@ pub(crate) fn parked_in(
     if !grid.passable(loc) || !others.may_rest(loc, 0) {
         return Found::NoAnswer;
     }
-    outcome(park_in(alloc, memory, grid, others, loc, allowed, 0))
+    let mut effort = u64::MAX;
+    outcome(park_in(alloc, memory, grid, others, loc, allowed, 0, &mut effort))
 }

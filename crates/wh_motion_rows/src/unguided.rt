@@ -33,12 +33,20 @@ fn unguided(
         return Ok(Found::NoAnswer);
     }
     let mut memory = SearchMemory::empty(alloc);
-    Ok(
-        match deliver_unguided(alloc, &mut memory, grid, others, CORNER, &stops)? {
-            Some(path) => Found::Ends(path.remaining()),
-            None => Found::NoPath,
-        },
-    )
+    let mut effort = u64::MAX;
+    let found = deliver_unguided(
+        alloc,
+        &mut memory,
+        grid,
+        others,
+        CORNER,
+        &stops,
+        &mut effort,
+    )?;
+    Ok(match found {
+        Some(path) => Found::Ends(path.remaining()),
+        None => Found::NoPath,
+    })
 }
 
 /// From the corner, beside another that stays at a cell: by no field, and by the search over intervals.

@@ -83,6 +83,7 @@ pub fn planner<R: Print, P: Planner, F: Fn(PlannerParts) -> Result<P, AllocError
         let parts = PlannerParts {
             kind: PlannerKind::Near,
             slack: 0,
+            effort: None,
             grid,
             claim,
         };

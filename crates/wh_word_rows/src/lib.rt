@@ -12,6 +12,8 @@ mod lines;
 #[cfg(test)]
 mod log;
 #[cfg(test)]
+mod restore;
+#[cfg(test)]
 mod text;
 #[cfg(test)]
 mod words;

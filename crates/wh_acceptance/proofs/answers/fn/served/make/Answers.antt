@@ -11,14 +11,15 @@ pub returns-in_ok-new-in-Near : goal.returns-in_ok-new-in-Near
 returns-in_ok-new-in-Near g c =
     let has = hides.has-1-1 g.dyn-1.0 g.dyn-1-has in
     let made = c.into_dyn_box.ensures.1 in
-    let inner = c.in_ok-new-in-Near.ensures.ok ∙ c.with_slack.ensures in
+    let late = c.with_slack.ensures in
+    let inner = c.in_ok-new-in-Near.ensures.ok ∙ c.with_effort-bounded.ensures in
     record {
       on_grid =
           read_made (dyn-1-ghosts g.dyn-1).0 _ (has.at tt) (has.same tt) Bool (λ j v. j.1.Plans.fits_map v c.args.parts.grid.value) _ _ _ made
-          ∙ same_at _ _ (ap (λ n. n.grid) inner ∙ c.in_ok-sharing-in-Near.ensures.grid);
+          ∙ same_at _ _ (ap (λ n. n.grid) inner ∙ ap (λ n. n.grid) late ∙ c.in_ok-sharing-in-Near.ensures.grid);
       has_slots =
           read_made (dyn-1-ghosts g.dyn-1).0 _ (has.at tt) (has.same tt) ℕ (λ j v. j.1.Plans.slot_count v) _ _ _ made
-          ∙ ap (λ n. claim_amount n.claim) inner ∙ ap claim_amount c.in_ok-sharing-in-Near.ensures.claim;
+          ∙ ap (λ n. claim_amount n.claim) inner ∙ ap (λ n. claim_amount n.claim) late ∙ ap claim_amount c.in_ok-sharing-in-Near.ensures.claim;
     }
 
 pub returns-in_ok-new-in-Patient : goal.returns-in_ok-new-in-Patient
