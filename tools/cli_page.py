@@ -20,26 +20,26 @@ HEAD = '''# Command line
 
 <!-- Made by tools/cli_page.py from tools/help. Change these, not this page. -->
 
-`./warehouse SUBCOMMAND [options] < input`, from any folder. If the program is missing, or its sources changed since, it is proved and built first; help and `--version` do not wait for that. `tools/look` takes the same arguments and runs the same code, not proved. The input is [sections](FORMATS.md#lines-and-words) separated by lines `%%`.
+`./warehouse SUBCOMMAND [options] < input`, from any folder. If the program is missing, or its sources changed since, it is proved and built first; help and `--version` do not wait for that. `tools/look` runs the same code, not proved. The input is [sections](FORMATS.md#lines-and-words) separated by lines `%%`.
 '''
 
 NOTES = {
     'check': ('''Prints `formed`, `few parkings HAVE NEED` or `cut A B` ([Modeling](MODELING.md#well-formed-floors)). Everything after the points is ignored. With `--ends homes` agents start at parkings (`refused H1 AGENT`), here and below.''',),
     'replay': (
-        '''Reads commands from standard input, live through a pipe or from a file, and writes one reply for each ([Protocol](PROTOCOL.md)).''',
-        '''`--told N` and `--new` need `--log`; `--behind` and `--ahead` need `--vehicles`, and that needs `rule nofollow` in the points (`refused V4`) and is given at each start (`V5`).''',
+        '''Reads commands, live through a pipe or from a file, and writes one reply for each ([Protocol](PROTOCOL.md)).''',
+        '''`--vehicles` needs `rule nofollow` in the points (`refused V4`) and is given at each start (`V5`).''',
         '''`--deliver` ([Formats](FORMATS.md#what-is-delivered-behind-the-script)) does not go with `--vehicles`.''',
-        '''`--slack N` ([Performance](PERFORMANCE.md#paths-that-may-be-late)) does not go with `--planner patient`, here and below.''',
-        '''`--tail log` writes a line `%%` and the log after the replies, `--tail ledger` a line `%%` and one row for each client. `--slots` and `--bank` bound what planners may keep in memory; they change no reply.''',
+        '''`--slack N` ([Performance](PERFORMANCE.md#paths-that-may-be-late)) and `--effort N` ([Algorithm](ALGORITHM.md#the-search)) do not go with `--planner patient`, here and below.''',
+        '''`--tail log` writes the log after the replies, `--tail ledger` one row for each client. `--slots` and `--bank` bound what planners may keep in memory; they change no reply.''',
     ),
     'verify': ('''Prints `run N`, N the number of entries, `run N unended`, or `bad L`, the first line of the log that no run by these `--ends` has.''',),
     'live': (
-        '''A demonstration that any interleaving of threads is one history: scripts, agents and the clock are threads, and the run ends whatever is open. It prints the log.''',
+        '''Any interleaving of its threads is one history. The run ends whatever is open, and prints the log.''',
     ),
     'serve': (
         '''Serves programs over named pipes ([Operations](OPERATIONS.md#several-clients)). `--log` and at least one `--client` are needed, and nothing follows the points. Closed, it prints the log.''',
         '''`--every N`: a worker requests and ticks until the service ends; earlier only where its share or the journal is used, or memory runs out.''',
-        '''`--board FILE`: FILE and FILE.new are replaced as a whole, if they are empty or boards; else `refused X6`. `--board-every` needs `--board`.''',
+        '''`--board FILE`: FILE and FILE.new are replaced as a whole, if they are empty or boards; else `refused X6`.''',
     ),
 }
 
@@ -52,7 +52,7 @@ STATUSES = (
     ('125', 'from `./warehouse`: the program could not be built'),
 )
 
-TAIL = '''Each refusal is one line on standard error ([Formats](FORMATS.md#standard-error-and-exit-statuses)). On a terminal `./warehouse` adds a sentence, except for `serve`; `tools/explain.py 'refused P4 line 2' INSTANCE` explains one and shows the line; `--all` prints every code.
+TAIL = '''Each refusal is one line on standard error ([Formats](FORMATS.md#standard-error-and-exit-statuses)). On a terminal `./warehouse` adds a sentence, except for `serve`; `tools/explain.py 'refused P4 line 2' INSTANCE` explains one; `--all` prints all.
 
 A value that begins with a hyphen is joined to its option, as in `--log=-x`. An option given twice, an abbreviation, and an argument that is not UTF-8 are refused.
 
