@@ -38,7 +38,11 @@ def main():
         stamp = crate.stamp()
         place = f"{crate.folder}/out/rlib/stamp"
         key = kept.key(crate)
-        if rt.rtlib.text_of(place) == stamp or kept.give(crate, False, key):
+        is_here = rt.rtlib.text_of(place) == stamp
+        if not is_here:
+            # (beside files of an older library what is given counts as damaged, and the entry is dropped)
+            shutil.rmtree(os.path.dirname(place), ignore_errors=True)
+        if is_here or kept.give(crate, False, key):
             kept.is_built(crate)
             given.add(crate.name)
             os.makedirs(os.path.dirname(place), exist_ok=True)
