@@ -168,8 +168,9 @@ def test_parts_of_a_file():
     assert "\n".join(it.text for it in parts) == PARTS
     names = ["Line::take", "Line::none", "RefSliceSource::give", "Line::drop", "CallerMachine::serve", "Opens::opens"]
     assert [it.name for it in parts if it.name] == [it.replace("SliceSource", "SliceSourceU8") for it in names], [it.name for it in parts]
-    without = rounds.without_bodies(PARTS)
-    assert "inner" not in without and "self.rest" not in without and "self.told" not in without and "ensures { result ≡ true };" in without
+    shown = rounds.shown(PARTS)
+    assert "inner" not in shown and "self.rest" not in shown and "self.told" not in shown and "ensures { result ≡ true };" in shown
+    assert [it for it in ("fn take", "fn none", "fn give", "fn drop", "fn serve", "fn opens") if it in shown] == ["fn take", "fn give", "fn drop", "fn serve", "fn opens"]
 
 
 def test_functions_that_an_edit_changes():
@@ -238,6 +239,7 @@ def test_all_are_refused_and_stamped():
         ("crates/low/src/lib.rt", "    requires { a < 99 }", "    // (so that it fits)\n    requires { a < 99 }", "none"),
         ("crates/high/src/lib.rt", "/// Four more.", "/// Four.\n///\n/// More {", "none"),
         ("crates/low/src/lib.rt", "a + STEP", "STEP + a", "low"),
+        ("crates/low/src/lib.rt", "/// Two more.", "fn half(a: u64) -> u64 {\n    a / 2\n}\n\n/// Two more.", "low"),
         ("crates/low/src/lib.rt", "a < 99", "a < 98", "low high"),
         ("crates/high/src/lib.rt", "second(second(a))", "second(second(a)) + 0", "high"),
         ("tests/edits/high/fourth_is_second.edit", "new: second(a)", "new: a", "high"),

@@ -101,7 +101,7 @@ def pieces(text):
                 found.append(Piece("", "\n".join(rest)))
                 rest = []
             name = "::".join([*[it[1] for it in blocks], function[2]])
-            head = "\n".join(lines[at : last + 1 if body is None else body])
+            head = "\n".join(lines[at : last + 1 if body is None else body + (lines[body] != function[1] + "{")])
             found.append(Piece(name, "\n".join(lines[at : last + 1]), head, blocks[-1][2] if blocks else ""))
             at = last
         else:
@@ -114,9 +114,15 @@ def pieces(text):
     return [*found, Piece("", "\n".join(rest))] if rest else found
 
 
-def without_bodies(text):
-    """The text of a source file without the bodies of its functions."""
-    return "\n".join(it.head if it.name else it.text for it in pieces(text))
+def is_shown(piece):
+    """Whether other crates can call a function: it is public, a member of a trait or of its impl, or what drops a value."""
+    *blocks, name = piece.name.split("::")
+    return bool(re.match(r" *pub ", piece.text)) or blocks and not piece.home or name == "drop"
+
+
+def shown(text):
+    """What a source file shows to other crates: the functions that they can call, without their bodies, and all between functions."""
+    return "\n".join(it.head if it.name else it.text for it in pieces(text) if not it.name or is_shown(it))
 
 
 def module_of(path):
