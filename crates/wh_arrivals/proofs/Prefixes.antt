@@ -7,7 +7,7 @@ use Rattle.wh_points.specs.Points.{Site, IsLayout}
 use Rattle.wh_event.specs.declared.entry.Entry.{Entry}
 use Rattle.wh_core.specs.States.{State}
 use Rattle.wh_core.specs.Steps.{Step, Run}
-use Rattle.wh_core.specs.Laws.{IsOpening}
+use Rattle.wh_core.specs.Laws.{IsBeginning}
 use Rattle.wh_core.proofs.Determined.{run-one}
 use Rattle.wh_book.specs.Drafts.{Seen}
 use Rattle.wh_drive.specs.Drives.{cell_in}
@@ -63,7 +63,7 @@ rows-front site layout old same e (entry ∷ before) after mid new short long =
     )
 
 -- the plan that was made by a part of the history stays
-stays : (book : Seen) (ahead other : ℕ) (before after : List Entry) (early late : Fleet) → IsOpening book.site book.opening → book.history ≡ before ++ after →
+stays : (book : Seen) (ahead other : ℕ) (before after : List Entry) (early late : Fleet) → IsBeginning book.site book.opening → book.history ≡ before ++ after →
     MayHaveHappened book ahead before early → MayHaveHappened book other book.history late → (more : List (List Cell)) × (late.drive.rows ≡ early.drive.rows ++ more)
 stays book ahead other before after early late o parts h k =
     let site = book.site in

@@ -5,17 +5,16 @@ use Rattle.std.specs.List.{AllPairs}
 use Rattle.std.proofs.lemmas.List.{get_or-map, get_or_default, append_assoc, append-nil, drop_more, take_more, drop_all, take_all, take-append-drop, length-map}
 use Rattle.wh_grid.specs.declared.cell.Cell.{Cell}
 use Rattle.wh_path.specs.Paths.{at}
-use Rattle.wh_path.proofs.AtLemmas.{origin, at-one}
-use Rattle.wh_points.specs.Points.{Site, starts}
+use Rattle.wh_path.proofs.AtLemmas.{origin}
+use Rattle.wh_points.specs.Points.{Site}
 use Rattle.wh_event.specs.declared.entry.Entry.{Entry}
 use Rattle.wh_event.specs.declared.event.Event.{Event}
 use Rattle.wh_event.specs.declared.event.Spare.{Spare}
 use Rattle.wh_event.specs.declared.reply.Reply.{Reply}
 use Rattle.wh_core.specs.States.{State}
 use Rattle.wh_core.specs.Steps.{Answers, Step, Run}
-use Rattle.wh_core.specs.Laws.{IsOpening, IsReached}
-use Rattle.wh_core.proofs.Seats.{seats-opening}
-use Rattle.wh_core.proofs.Sound.{opening-begins, opening-reached, sound-reached, ways-reached}
+use Rattle.wh_core.specs.Laws.{IsBeginning, IsBeginningOnTheirWays, IsReached}
+use Rattle.wh_core.proofs.Sound.{begun-reached, sound-reached, ways-reached}
 use Rattle.wh_core.proofs.Traffic.{none_share}
 use Rattle.wh_book.specs.Drafts.{Seen}
 use Rattle.wh_drive.specs.declared.vehicle.Vehicle.{Vehicle}
@@ -91,11 +90,11 @@ happened-alone book ahead before s d e h a = record {
       ∙ ap (λ (es : List Entry). before ++ es) a.none ∙ append-nil before;
 }
 
-pub carried-out : (book : Seen) (ahead : ℕ) (entries : List Entry) (fleet : Fleet) → IsOpening book.site book.opening → 1 ≤ ahead → MayHaveHappened book ahead entries fleet →
+pub carried-out : (book : Seen) (ahead : ℕ) (entries : List Entry) (fleet : Fleet) → IsBeginning book.site book.opening → 1 ≤ ahead → MayHaveHappened book ahead entries fleet →
     IsCarriedOut book.site entries fleet
-carried-out book ahead entries fleet o some h =
+carried-out book ahead entries fleet begins some h =
     let first : Fleet = record { state = book.opening; drive = opened book.site.layout.nofollow ahead (places book.opening) } in
-    let opens : plans.IsOpening book.site first = record { ahead = ahead; some = some; state = (opening-begins book.site book.opening o).0; drive = refl } in
+    let opens : plans.IsOpening book.site first = record { ahead = ahead; some = some; state = begins; drive = refl } in
     subst (λ (es : List Entry). IsCarriedOut book.site es fleet) h.entries_are (each_run_is_a_plan book.site first h.happenings fleet opens h.all)
 
 -- ---- one step
@@ -155,58 +154,39 @@ pub record Walked (book : Seen) (ahead : ℕ) (steps : List ℕ) (before after :
   pub time : clock drive + book.opening.clock ≡ state.clock
   pub stand : StandBy o.clock steps o.vehicles
 
--- where the agents stand at the opening
-pub places-opening : (book : Seen) → IsOpening book.site book.opening → places book.opening ≡ starts book.site.layout
-places-opening book o = ap places o.is_opened ∙ go (starts book.site.layout)
-  where
-    go : (cells : List Cell) → map (λ (path : List Cell). at path 0) (map (λ (cell : Cell). cell ∷ []) cells) ≡ cells
-    go [] = refl
-    go (cell ∷ cells) = λ i. at-one cell 0 i ∷ go cells i
+-- no two agents begin at one cell
+pub differ-beginning : (book : Seen) → IsBeginning book.site book.opening → AllPairs (λ a b. a ≢ b) (places book.opening)
+differ-beginning book begins i j a below within e =
+    let s = book.opening in
+    let reached : IsReached book.site [] s = record { opening = s; is_beginning = begins; run = refl } in
+    let cells = size s in
+    let l : j < length s.paths = omega arith in
+    let l' : i < length s.paths = omega arith in
+    none_share book.site [] s i j reached (record { first = l'; second = l; differ = λ same. omega arith })
+    (sym (at-place s i l') ∙ get_or_default (places s) i origin a (omega arith) ∙ e ∙ get_or_default (places s) j a origin within ∙ at-place s j l)
 
-pub paths-opening : (book : Seen) → IsOpening book.site book.opening → book.opening.paths ≡ map (λ (cell : Cell). cell ∷ []) (starts book.site.layout)
-paths-opening book o = ap (λ (s : State). s.paths) o.is_opened
-
-pub differ-opening : (book : Seen) → IsOpening book.site book.opening → AllPairs (λ a b. a ≢ b) (starts book.site.layout)
-differ-opening book o = subst (λ (row : List Cell). AllPairs (λ a b. a ≢ b) row) (places-opening book o) differ
-  where
-    s : State
-    s = book.opening
-
-    reached : IsReached book.site [] s
-    reached = (opening-reached book.site s [] s o refl).reached
-
-    differ : AllPairs (λ a b. a ≢ b) (places s)
-    differ i j a below within e =
-        let cells = size s in
-        let l : j < length s.paths = omega arith in
-        let l' : i < length s.paths = omega arith in
-        none_share book.site [] s i j reached (record { first = l'; second = l; differ = λ same. omega arith })
-        (sym (at-place s i l') ∙ get_or_default (places s) i origin a (omega arith) ∙ e ∙ get_or_default (places s) j a origin within ∙ at-place s j l)
-
-pub walked-start : (book : Seen) (ahead : ℕ) (steps : List ℕ) (cells : List Cell) (paths : List (List Cell)) (o : Order) → IsOpening book.site book.opening →
-    Run book.site book.opening book.history book.state → length steps ≡ length book.state.paths → cells ≡ starts book.site.layout →
-    paths ≡ map (λ (cell : Cell). cell ∷ []) cells → ((nofollow : Bool) → Represents o (opened nofollow ahead cells)) →
-    Walked book ahead steps [] book.history paths o
-walked-start book ahead steps cells paths o is run all cells_are paths_are represents =
-    let first = cells_are ∙ sym (places-opening book is) in
-    let d = opened book.site.layout.nofollow ahead cells in
+pub walked-start : (book : Seen) (ahead : ℕ) (steps : List ℕ) (row : List Cell) (paths : List (List Cell)) (o : Order) → IsBeginningOnTheirWays book.site book.opening →
+    Run book.site book.opening book.history book.state → length steps ≡ length book.state.paths → row ≡ places book.opening → paths ≡ book.opening.paths →
+    ((nofollow : Bool) → Represents o (opened nofollow ahead row)) → Walked book ahead steps [] book.history paths o
+walked-start book ahead steps row paths o begins run all row_is paths_are represents =
+    let d = opened book.site.layout.nofollow ahead row in
     let r = represents book.site.layout.nofollow in
     let time = r.time in
     let now : o.clock ≡ 0 = time in
-    let vehicles : o.vehicles ≡ map (λ _. idle) cells = r.vehicles in
-    let size-now : length o.vehicles ≡ length cells = ap (λ (vs : List Vehicle). length vs) vehicles ∙ length-map cells (λ _. idle) in
+    let vehicles : o.vehicles ≡ map (λ _. idle) row = r.vehicles in
+    let size-now : length o.vehicles ≡ length row = ap (λ (vs : List Vehicle). length vs) vehicles ∙ length-map row (λ _. idle) in
     let size-first : length (places book.opening) ≡ length book.opening.paths = size book.opening in
-    let size-same : length cells ≡ length (places book.opening) = ap (λ (cs : List Cell). length cs) first in
-    let seats = (seats-opening book.site book.opening is).paths in
-    let seats-now = (sound-reached book.site book.history book.state (opening-reached book.site book.opening book.history book.state is run).reached).seats.paths in
+    let size-same : length row ≡ length (places book.opening) = ap (λ (cs : List Cell). length cs) row_is in
+    let seats = begins.beginning.sound.seats.paths in
+    let seats-now = (sound-reached book.site book.history book.state (begun-reached book.site book.opening book.history book.state begins run).reached).seats.paths in
     record {
       state = book.opening;
       drive = d;
       rest = run;
-      paths_are = paths_are ∙ ap (λ (cs : List Cell). map (λ (cell : Cell). cell ∷ []) cs) cells_are ∙ sym (paths-opening book is);
+      paths_are = paths_are;
       happened = record {
         happenings = [];
-        all = ap (λ (cs : List Cell). fleet-of book.opening (opened book.site.layout.nofollow ahead cs)) first;
+        all = ap (λ (cs : List Cell). fleet-of book.opening (opened book.site.layout.nofollow ahead cs)) row_is;
         entries_are = refl;
       };
       represents = r;
@@ -214,9 +194,9 @@ walked-start book ahead steps cells paths o is run all cells_are paths_are repre
       stand = record {
         all = omega arith;
         each = λ agent h.
-            let within : agent < length cells = omega arith in
+            let within : agent < length row = omega arith in
             let none : min (slice_index steps agent) o.clock ≡ 0 = omega arith in
-            ap (λ (vs : List Vehicle). vehicle_in vs agent) vehicles ∙ get_or-map (λ (_ : Cell). idle) cells agent origin idle within
+            ap (λ (vs : List Vehicle). vehicle_in vs agent) vehicles ∙ get_or-map (λ (_ : Cell). idle) row agent origin idle within
             ∙ ap (λ n. record { reached = n; told = n }) (sym none);
       };
     }
@@ -251,12 +231,12 @@ pub record Due (book : Seen) (ahead : ℕ) (before : List Entry) (entry : Entry)
   pub all : length row ≡ length o.vehicles
 
 pub due : (book : Seen) (ahead : ℕ) (steps : List ℕ) (before : List Entry) (entry : Entry) (after : List Entry) (paths new : List (List Cell)) (row : List Cell) (o : Order) →
-    IsOpening book.site book.opening → 1 ≤ ahead → (w : Walked book ahead steps before (entry ∷ after) paths o) → new ≡ paths_after entry.reply entry.event paths →
+    IsBeginning book.site book.opening → 1 ≤ ahead → (w : Walked book ahead steps before (entry ∷ after) paths o) → new ≡ paths_after entry.reply entry.event paths →
     is_clock entry.reply ≡ true → row ≡ map (λ (path : List Cell). at path 0) new → Due book ahead before entry after row new o w.drive
-due book ahead steps before entry after paths new row o is some w new_is ticks row_is =
+due book ahead steps before entry after paths new row o begins some w new_is ticks row_is =
     let next = w.rest.0 in
     let s = on book.site w.state entry.reply entry.event next w.rest.1 ticks in
-    let carried = carried-out book ahead before (record { state = w.state; drive = w.drive }) is some w.happened in
+    let carried = carried-out book ahead before (record { state = w.state; drive = w.drive }) begins some w.happened in
     let new_are : new ≡ next.paths = new_is ∙ ap (paths_after entry.reply entry.event) w.paths_are ∙ s.paths in
     let there : row ≡ places next = row_is ∙ ap (map (λ (path : List Cell). at path 0)) new_are in
     let may = each_step_may_be_taken book.site before w.state entry next w.drive carried.state w.rest.1 carried.come in
@@ -297,9 +277,9 @@ walked-tick book ahead steps before entry after paths new row o then w d goes cl
       stand = stand;
     }
 
-pub walked-all : (book : Seen) (ahead : ℕ) (steps : List ℕ) (paths : List (List Cell)) (o : Order) → IsOpening book.site book.opening →
+pub walked-all : (book : Seen) (ahead : ℕ) (steps : List ℕ) (paths : List (List Cell)) (o : Order) → IsBeginningOnTheirWays book.site book.opening →
     Run book.site book.opening book.history book.state → 1 ≤ ahead → Walked book ahead steps book.history [] paths o → Stand book ahead steps o
-walked-all book ahead steps paths o is run some w =
+walked-all book ahead steps paths o begins run some w =
     let same : book.state ≡ w.state = w.rest in
     let happened : MayHaveHappened book ahead book.history (record { state = book.state; drive = w.drive }) =
     subst (λ (s : State). MayHaveHappened book ahead book.history (record { state = s; drive = w.drive })) (sym same) w.happened in
@@ -307,9 +287,9 @@ walked-all book ahead steps paths o is run some w =
       drive = w.drive;
       represents = w.represents;
       happened = happened;
-      carried = carried-out book ahead book.history (record { state = book.state; drive = w.drive }) is some happened;
+      carried = carried-out book ahead book.history (record { state = book.state; drive = w.drive }) begins.beginning some happened;
       time = w.time ∙ ap (λ (s : State). s.clock) (sym same);
-      ways = ways-reached book.site book.history book.state (opening-reached book.site book.opening book.history book.state is run);
+      ways = ways-reached book.site book.history book.state (begun-reached book.site book.opening book.history book.state begins run);
       stand = subst (λ n. StandBy n steps w.drive.vehicles) w.represents.time (subst (λ (vs : List Vehicle). StandBy o.clock steps vs) w.represents.vehicles w.stand);
     }
 

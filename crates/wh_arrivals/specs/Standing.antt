@@ -5,7 +5,7 @@ use Rattle.wh_path.specs.Paths.{advanced}
 use Rattle.wh_event.specs.declared.entry.Entry.{Entry}
 use Rattle.wh_event.specs.declared.event.Event.{Event}
 use Rattle.wh_event.specs.declared.reply.Reply.{Reply}
-use Rattle.wh_core.specs.Laws.{AllOnTheirWays, IsOpening}
+use Rattle.wh_core.specs.Laws.{AllOnTheirWays, IsBeginning}
 use Rattle.wh_book.specs.Drafts.{Seen}
 use Rattle.wh_drive.specs.Drives.{Drive, clock, reached, opened}
 use Rattle.wh_order.specs.Orders.{Order, Represents}
@@ -14,8 +14,8 @@ use Rattle.wh_vehicles.specs.Plans.{places, Happening, Fleet, AllHappen, entries
 use Rattle.wh_arrivals.specs.declared.standing.StandFault.{StandFault}
 use Rattle.wh_arrivals.specs.declared.standing.StandFault.TheVariants.{NoMemory, TooEarly}
 
--- From the book's opening, with each vehicle at its start, things may have happened that lead to the fleet; of them, these
--- entries are the warehouse's.
+-- From the state with which the book began, where each vehicle stood where its agent was, things may have happened that lead to the fleet;
+-- of them, these entries are the warehouse's.
 pub record MayHaveHappened (book : Seen) (ahead : ℕ) (entries : List Entry) (fleet : Fleet) : Type 0 where
   pub happenings : List Happening
   pub all : AllHappen book.site (record { state = book.opening; drive = opened book.site.layout.nofollow ahead (places book.opening) }) happenings fleet
@@ -46,7 +46,7 @@ pub record ComesTooEarly (book : Seen) (ahead : ℕ) (steps : List ℕ) (agent :
 -- however many cells ahead each may be told.
 abbrev pub TooEarlyIsNever : Type 0
 TooEarlyIsNever =
-    (book : Seen) (ahead other : ℕ) (steps : List ℕ) (agent : ℕ) (fleet : Fleet) → IsOpening book.site book.opening → 1 ≤ other →
+    (book : Seen) (ahead other : ℕ) (steps : List ℕ) (agent : ℕ) (fleet : Fleet) → IsBeginning book.site book.opening → 1 ≤ other →
     ComesTooEarly book ahead steps agent → MayHaveHappened book other book.history fleet → length fleet.drive.vehicles ≡ length steps →
     ¬ ((i : ℕ) → i < length steps → reached fleet.drive i ≡ slice_index steps i)
 

@@ -21,6 +21,17 @@ pub fn resting(alloc: Global, starts: &[Cell]) -> Result<Vec<TimedPath>, AllocEr
     Ok(paths)
 }
 
+/// These paths.
+pub fn copied(alloc: Global, paths: &[TimedPath]) -> Result<Vec<TimedPath>, AllocError>
+    ensures { IfOk result (λ copies. copies.items ≡ paths.now) }
+{
+    let mut copies = Vec::new(alloc);
+    for path in paths {
+        copies.push(path.copy(alloc)?)?;
+    }
+    Ok(copies)
+}
+
 /// Each path is a step further.
 fn advance_all(paths: &mut [TimedPath])
     ensures { paths.new ≡ map advanced paths.old }

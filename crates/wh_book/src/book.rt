@@ -215,6 +215,13 @@ impl Book {
         self.floor.slots()
     }
 
+    /// With what it began.
+    pub fn first(&self) -> &Opening
+        ensures { opening_of self.now.site.layout result.now ≡ self.now.opening }
+    {
+        &self.first
+    }
+
     /// The clock of the opening state.
     pub fn first_clock(&self) -> u32
         ensures { result ≡ self.now.opening.clock }

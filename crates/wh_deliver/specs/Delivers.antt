@@ -15,8 +15,7 @@ use Rattle.wh_session.specs.Machines.{Records}
 use Rattle.wh_replay.specs.declared.asker.Asker.{Asker}
 use Rattle.wh_replay.specs.Answers.{clock_after, text_of}
 use Rattle.wh_replay.specs.Appending.{lines_for, logged}
-use Rattle.wh_progress.specs.Progress.{span, open_tasks, left_to_do, HaveAtMost, AreOfTwoPlaces, StandsStill, IsHeld, AllDone}
-use Rattle.wh_core.specs.Laws.{IsOpening}
+use Rattle.wh_progress.specs.Progress.{span, open_tasks, left_to_do, first_paths_left, HaveAtMost, AreOfTwoPlaces, StandsStill, IsHeld, AllDone}
 use Rattle.wh_progress.specs.Laws.{NoneCanStand}
 use Rattle.wh_delivery.specs.Deliveries.{GoesOn, IsStuck}
 use Rattle.wh_deliver.specs.declared.delivering.DeliverFault.{DeliverFault}
@@ -33,7 +32,8 @@ pub record Does (caller : ℕ) (old : Seen) (added : List Entry) (new : Seen) : 
 
 -- All stands still, after so many ticks. Where paths go on home to parkings, or each task has its stops at two cells at most, all are done;
 -- where paths end at the last stop each task is done, or two agents hold it. On a well-formed instance it takes no more ticks than rounds
--- were left to do; where paths end at the last stop, and the run is from an opening, at most two spans for each agent and each open task.
+-- were left to do; where paths end at the last stop, at most two spans for each agent and each open task, and the steps that were left of the
+-- paths with which the run began.
 pub record IsDelivered (old new : Seen) : Type 0 where
   pub ticks : ℕ
   pub clock : new.state.clock ≡ old.state.clock + ticks
@@ -43,15 +43,15 @@ pub record IsDelivered (old new : Seen) : Type 0 where
   pub all_done : 0 < length old.site.layout.agents → NoneCanStand old.site old.state → AllDone new.state
   pub done : old.site.homes ≡ false → 0 < length old.site.layout.agents → AreOfTwoPlaces old.state → AllDone new.state
   pub within : (stops : ℕ) → IsFormed old.site → HaveAtMost stops old.state → ticks ≤ left_to_do old.site stops old.state
-  pub bounded : old.site.homes ≡ false → IsOpening old.site old.opening → (stops : ℕ) → IsFormed old.site → HaveAtMost stops old.state
-      → ticks ≤ 2 * span old.site stops * (length old.site.layout.agents + open_tasks old.state)
+  pub bounded : old.site.homes ≡ false → (stops : ℕ) → IsFormed old.site → HaveAtMost stops old.state
+      → ticks ≤ 2 * span old.site stops * (length old.site.layout.agents + open_tasks old.state) + first_paths_left old.opening old.state
 
 -- The clock came to its last. On a well-formed instance it had no more ticks left than that bound.
 pub record IsLate (old new : Seen) : Type 0 where
   pub last : new.state.clock ≡ last_clock
   pub within : (stops : ℕ) → IsFormed old.site → HaveAtMost stops old.state → last_clock ≤ old.state.clock + left_to_do old.site stops old.state
-  pub late : old.site.homes ≡ false → IsOpening old.site old.opening → (stops : ℕ) → IsFormed old.site → HaveAtMost stops old.state
-      → last_clock ≤ old.state.clock + 2 * span old.site stops * (length old.site.layout.agents + open_tasks old.state)
+  pub late : old.site.homes ≡ false → (stops : ℕ) → IsFormed old.site → HaveAtMost stops old.state
+      → last_clock ≤ old.state.clock + 2 * span old.site stops * (length old.site.layout.agents + open_tasks old.state) + first_paths_left old.opening old.state
 
 -- All stand, and what is left to do finds no path: so on no well-formed instance.
 pub record EndsStuck (old new : Seen) : Type 0 where

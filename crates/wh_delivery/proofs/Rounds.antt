@@ -13,14 +13,13 @@ use Rattle.wh_core.specs.Steps.{Answers, Run, IsDue, last_clock}
 use Rattle.wh_core.proofs.StepKinds.{run-join}
 use Rattle.wh_core.proofs.Later.{AllLater, later-run}
 use Rattle.wh_core.proofs.Idle.{decide-idle}
-use Rattle.wh_core.specs.Laws.{IsOpening}
 use Rattle.wh_core.proofs.Sound.{sound-reached}
 use Rattle.wh_event.specs.declared.event.Event.{Event}
 use Rattle.wh_event.specs.declared.reply.Refusal.{Refusal}
 use Rattle.wh_event.specs.declared.reply.Reply.{Reply}
 use Rattle.wh_event.specs.declared.entry.Entry.{Entry}
 use Rattle.wh_book.specs.Drafts.{Seen}
-use Rattle.wh_progress.specs.Progress.{HaveAtMost, HasAsked, FindPaths, IsRound, StandsStill, IsHeld, AllDone, span, open_tasks, left_to_do}
+use Rattle.wh_progress.specs.Progress.{HaveAtMost, HasAsked, FindPaths, IsRound, StandsStill, IsHeld, AllDone, span, open_tasks, left_to_do, first_paths_left}
 use Rattle.wh_progress.specs.Laws.{NoneCanStand}
 use Rattle.wh_progress.proofs.Due.{due_until_asked}
 use Rattle.wh_progress.proofs.Reaching.{few-after, places-after}
@@ -245,10 +244,10 @@ pub within : (caller : ℕ) (old now : Seen) (ticks : ℕ) → IsDelivering call
 within caller old now ticks d stops formed few = (let falls = d.falls stops formed few in omega arith)
 
 pub bounded : (caller : ℕ) (old now : Seen) (ticks : ℕ) → IsBegun old →
-    IsDelivering caller old ticks now → old.site.homes ≡ false → IsOpening old.site old.opening → (stops : ℕ) → IsFormed old.site → HaveAtMost stops old.state →
-    ticks ≤ 2 * span old.site stops * (length old.site.layout.agents + open_tasks old.state)
-bounded caller old now ticks kept d off opening stops formed few =
-    let bound = left_is_bounded old.site stops old.opening old.history old.state off opening kept.run few in
+    IsDelivering caller old ticks now → old.site.homes ≡ false → (stops : ℕ) → IsFormed old.site → HaveAtMost stops old.state →
+    ticks ≤ 2 * span old.site stops * (length old.site.layout.agents + open_tasks old.state) + first_paths_left old.opening old.state
+bounded caller old now ticks kept d off stops formed few =
+    let bound = left_is_bounded old.site stops old.opening old.history old.state off kept.begins kept.run few in
     let falls = d.falls stops formed few in
     omega arith
 
@@ -277,9 +276,10 @@ late-within caller old now mid ticks d same last stops formed few =
     omega arith
 
 pub late : (caller : ℕ) (old now : Seen) (mid : State) (ticks : ℕ) → IsBegun old →
-    IsDelivering caller old ticks now → mid.clock ≡ now.state.clock → mid.clock ≡ last_clock → old.site.homes ≡ false → IsOpening old.site old.opening →
-    (stops : ℕ) → IsFormed old.site → HaveAtMost stops old.state → last_clock ≤ old.state.clock + 2 * span old.site stops * (length old.site.layout.agents + open_tasks old.state)
-late caller old now mid ticks kept d same last off opening stops formed few =
-    let bound = bounded caller old now ticks kept d off opening stops formed few in
+    IsDelivering caller old ticks now → mid.clock ≡ now.state.clock → mid.clock ≡ last_clock → old.site.homes ≡ false →
+    (stops : ℕ) → IsFormed old.site → HaveAtMost stops old.state →
+    last_clock ≤ old.state.clock + 2 * span old.site stops * (length old.site.layout.agents + open_tasks old.state) + first_paths_left old.opening old.state
+late caller old now mid ticks kept d same last off stops formed few =
+    let bound = bounded caller old now ticks kept d off stops formed few in
     let clock = d.clock in
     omega arith

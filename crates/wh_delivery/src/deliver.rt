@@ -7,10 +7,9 @@ ghost use Rattle.wh_tasks.specs.declared.task.Task.{Task as Job};
 ghost use Rattle.wh_tasks.specs.declared.task.Phase.{Phase as Stage};
 ghost use Rattle.wh_tasks.specs.Tasks.{IsTask, IsOpen, phase};
 ghost use Rattle.wh_core.specs.Steps.{last_clock};
-ghost use Rattle.wh_core.specs.Laws.{IsOpening};
 ghost use Rattle.wh_event.specs.declared.event.Event.{Event as Asked};
 ghost use Rattle.wh_event.specs.declared.entry.Entry.{Entry as Line};
-ghost use Rattle.wh_progress.specs.Progress.{span, open_tasks, left_to_do, HaveAtMost, AreOfTwoPlaces, StandsStill, IsHeld, AllDone};
+ghost use Rattle.wh_progress.specs.Progress.{span, open_tasks, left_to_do, first_paths_left, HaveAtMost, AreOfTwoPlaces, StandsStill, IsHeld, AllDone};
 ghost use Rattle.wh_progress.specs.Laws.{NoneCanStand};
 ghost use Rattle.wh_event.specs.declared.reply.Reply.{Reply as Answer};
 ghost use Rattle.wh_delivery.specs.Turns.{IsRoundSoFar, RunInTurn, no_path};
@@ -157,7 +156,8 @@ fn tick<P: Plans>(alloc: Global, warehouse: &mut Warehouse<P>, caller: u32) -> R
 /// Where paths go on home to parkings all are done, whatever their stops are, and each agent is at home. (All of this needs an agent.)
 ///
 /// On a well-formed instance it takes at most as many ticks as rounds are left to do. Where paths end at the last stop that is at most two
-/// spans for each agent and each open task. A span is one more than a pass over all passable cells for each stop of the task that has the
+/// spans for each agent and each open task, and the steps that are left of the paths with which the history began: none, where the agents
+/// stood at their starts then. A span is one more than a pass over all passable cells for each stop of the task that has the
 /// most: with two stops on 1,000 cells 2,001 ticks. That is a guarantee, whatever paths the planners find, and no estimate.
 ///
 /// # Errors
@@ -186,14 +186,16 @@ pub fn deliver_all<P: Plans>(
     ensures done { IfOk result (λ _. warehouse.old.book.site.homes ≡ false → 0 < length warehouse.old.book.site.layout.agents → AreOfTwoPlaces warehouse.old.book.state → AllDone warehouse.new.book.state) }
     ensures within { IfOk result (λ ticks. (stops : ℕ) → IsFormed warehouse.old.book.site → HaveAtMost stops warehouse.old.book.state
         → ticks ≤ left_to_do warehouse.old.book.site stops warehouse.old.book.state) }
-    ensures bounded { IfOk result (λ ticks. warehouse.old.book.site.homes ≡ false → IsOpening warehouse.old.book.site warehouse.old.book.opening → (stops : ℕ) → IsFormed warehouse.old.book.site → HaveAtMost stops warehouse.old.book.state
-        → ticks ≤ 2 * span warehouse.old.book.site stops * (length warehouse.old.book.site.layout.agents + open_tasks warehouse.old.book.state)) }
+    ensures bounded { IfOk result (λ ticks. warehouse.old.book.site.homes ≡ false → (stops : ℕ) → IsFormed warehouse.old.book.site → HaveAtMost stops warehouse.old.book.state
+        → ticks ≤ 2 * span warehouse.old.book.site stops * (length warehouse.old.book.site.layout.agents + open_tasks warehouse.old.book.state)
+        + first_paths_left warehouse.old.book.opening warehouse.old.book.state) }
     ensures why { IfErr result (λ fault. IsWhy warehouse.new.book.site fault warehouse.new.book.state) }
     ensures formed { IfErr result (λ fault. fault ≡ BrokenOff.Stuck → ¬ IsFormed warehouse.old.book.site) }
     ensures late_within { IfErr result (λ fault. fault ≡ BrokenOff.ClockFull → (stops : ℕ) → IsFormed warehouse.old.book.site → HaveAtMost stops warehouse.old.book.state
         → last_clock ≤ warehouse.old.book.state.clock + left_to_do warehouse.old.book.site stops warehouse.old.book.state) }
-    ensures late { IfErr result (λ fault. fault ≡ BrokenOff.ClockFull → warehouse.old.book.site.homes ≡ false → IsOpening warehouse.old.book.site warehouse.old.book.opening → (stops : ℕ) → IsFormed warehouse.old.book.site → HaveAtMost stops warehouse.old.book.state
-        → last_clock ≤ warehouse.old.book.state.clock + 2 * span warehouse.old.book.site stops * (length warehouse.old.book.site.layout.agents + open_tasks warehouse.old.book.state)) }
+    ensures late { IfErr result (λ fault. fault ≡ BrokenOff.ClockFull → warehouse.old.book.site.homes ≡ false → (stops : ℕ) → IsFormed warehouse.old.book.site → HaveAtMost stops warehouse.old.book.state
+        → last_clock ≤ warehouse.old.book.state.clock + 2 * span warehouse.old.book.site stops * (length warehouse.old.book.site.layout.agents + open_tasks warehouse.old.book.state)
+        + first_paths_left warehouse.old.book.opening warehouse.old.book.state) }
 {
     // Called for what its contract says: the history is a run from where the book began.
     let _run = warehouse.history();

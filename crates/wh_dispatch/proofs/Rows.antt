@@ -1,5 +1,6 @@
 -- a row of where the agents are
 use Rattle.std.proofs.Common.{◌≡◌, ◌≢◌, ℕ, ◌+◌, ◌<◌, ◌≤◌, ◌∙◌, inl, inr, List, [], length, Bool, sym, subst, refl, ap, arith, take, get_or, cond, true, false}
+use Rattle.std.specs.Prelude.{Contains}
 use Rattle.std.specs.List.{AllPairs, count_by}
 use Rattle.std.proofs.lemmas.List.Sums.{count_by_more_yes, count_by_more_no}
 use Rattle.std.proofs.Math.ListN.{set}
@@ -9,8 +10,8 @@ use Rattle.wh_grid.specs.declared.cell.Cell.{Cell}
 use Rattle.wh_path.specs.Paths.{cell_at, place_of}
 use Rattle.wh_path.proofs.AtLemmas.{origin}
 use Rattle.wh_core.specs.States.{State}
-use Rattle.wh_core.specs.Laws.{AllOnTheirWays, IsOpening as IsOpeningState, IsReached as IsReachedState}
-use Rattle.wh_core.proofs.Sound.{opening-begins, opening-reached}
+use Rattle.wh_core.specs.Laws.{IsBeginningOnTheirWays, IsReached as IsReachedState}
+use Rattle.wh_core.proofs.Sound.{kept-of}
 use Rattle.wh_core.proofs.Traffic.{none_share}
 use Rattle.wh_core.specs.Steps.{Run}
 use Rattle.wh_book.specs.Drafts.{Seen}
@@ -21,13 +22,12 @@ use Rattle.wh_order.specs.Orders.{Represents}
 use Rattle.wh_order.specs.Settling.{IsQuiet}
 use Rattle.wh_vehicles.specs.Plans.{places, IsOpening, IsCarriedOut}
 use Rattle.wh_vehicles.proofs.Planning.{size, at-place, carried-opening}
-use Rattle.wh_tasks.specs.declared.task.Task.{Task}
-use Rattle.wh_tasks.specs.Tasks.{IsTask}
-use Rattle.wh_core.proofs.Work.{no-task}
 use Rattle.wh_vehicles.specs.Visits.{HasMade}
 use Rattle.wh_dispatch.specs.declared.visits.Pending.{Pending}
 use Rattle.wh_dispatch.specs.Crews.{Crew, IsManned, AreWatched}
-use Rattle.wh_dispatch.proofs.Members.{none_in, pairs_nil}
+use Rattle.wh_dispatch.specs.SettingOut.{NoneIsTold}
+use Rattle.wh_dispatch.specs.Visiting.{left_after, IsStanding}
+use Rattle.wh_dispatch.proofs.Watching.{standing, watched_after}
 
 -- a row that has each agent's cell at its place
 pub is_row : (s : State) (row : List Cell) → length row ≡ length s.paths → ((k : ℕ) → k < length s.paths → cell_at row k ≡ place_of s.paths k) → row ≡ places s
@@ -65,48 +65,58 @@ quiet_opened nofollow ahead starts = record {
 pub at_opening : (book : Seen) → book.history ≡ [] → Run book.site book.opening book.history book.state → book.state ≡ book.opening
 at_opening book none run = subst (λ es. Run book.site book.opening es book.state) none run
 
-opening_fleet : (book : Seen) (ahead : ℕ) → IsOpeningState book.site book.opening → book.state ≡ book.opening → 1 ≤ ahead →
+opening_fleet : (book : Seen) (ahead : ℕ) → IsBeginningOnTheirWays book.site book.state → 1 ≤ ahead →
     IsOpening book.site (record { state = book.state; drive = opened book.site.layout.nofollow ahead (places book.state) })
-opening_fleet book ahead o same some = record {
+opening_fleet book ahead begins some = record {
   ahead = ahead;
   some = some;
-  state = (opening-begins book.site book.state (subst (λ (s : State). IsOpeningState book.site s) (sym same) o)).0;
+  state = begins.beginning;
   drive = refl;
 }
 
--- no two agents start at one cell
-pub differ_opened : (book : Seen) → IsOpeningState book.site book.opening → book.state ≡ book.opening → AllPairs (λ a b. a ≢ b) (places book.state)
-differ_opened book o same =
+-- the state of a book with no history is one from which it may begin
+pub begins_there : (book : Seen) → IsBeginningOnTheirWays book.site book.opening → book.state ≡ book.opening → IsBeginningOnTheirWays book.site book.state
+begins_there book begins same = subst (λ (s : State). IsBeginningOnTheirWays book.site s) (sym same) begins
+
+-- no two agents begin at one cell
+pub differ_opened : (book : Seen) → IsBeginningOnTheirWays book.site book.state → AllPairs (λ a b. a ≢ b) (places book.state)
+differ_opened book begins =
     let s = book.state in
     let cells = size s in
-    let reached : IsReachedState book.site [] s = (opening-reached book.site s [] s (subst (λ (t : State). IsOpeningState book.site t) (sym same) o) refl).reached in
+    let reached : IsReachedState book.site [] s = record { opening = s; is_beginning = begins.beginning; run = refl } in
     λ i j a below within e.
     let l : j < length s.paths = omega arith in
     let l' : i < length s.paths = omega arith in
     none_share book.site [] s i j reached (record { first = l'; second = l; differ = λ same. omega arith })
     (sym (at-place s i l') ∙ get_or_default (places s) i origin a (omega arith) ∙ e ∙ get_or_default (places s) j a origin within ∙ at-place s j l)
 
--- at an opening there are no tasks
-no_tasks : (book : Seen) → IsOpeningState book.site book.opening → book.state ≡ book.opening → book.state.tasks ≡ []
-no_tasks book o same = ap (λ (s : State). s.tasks) (same ∙ o.is_opened)
+-- of the tasks that agents have none was told
+module _ (book : Seen) (before : List Pending) (begins : IsBeginningOnTheirWays book.site book.state) (untold : AreWatched book.state NoneIsTold before) where
+  pub stand_opened : (ahead agents : ℕ) → agents ≡ length book.state.paths → (p : Pending) → Contains before p → IsStanding book.state.tasks agents p
+  stand_opened ahead agents count =
+      standing book.opening.clock book.state (opened book.site.layout.nofollow ahead (places book.state)) NoneIsTold before untold agents count
+      (kept-of book.site book.state begins.beginning.sound).working (λ v told. absurd told)
 
-pub manned_opened : (book : Seen) (crew : Crew) (ahead : ℕ) → IsOpeningState book.site book.opening → book.state ≡ book.opening → book.history ≡ [] → 1 ≤ ahead → crew.pending ≡ [] →
-    Represents crew.order (opened book.site.layout.nofollow ahead (places book.state)) → IsManned book crew (opened book.site.layout.nofollow ahead (places book.state))
-manned_opened book crew ahead o same none some empty r = record {
-  in_step = record {
-    represents = r;
-    carried = subst (λ es. IsCarriedOut book.site es (record { state = book.state; drive = opened book.site.layout.nofollow ahead (places book.state) })) (sym none)
-        (carried-opening book.site _ (opening_fleet book ahead o same some));
-    time = (let here : book.state.clock ≡ book.opening.clock = ap (λ (s : State). s.clock) same in omega arith);
-    ways = subst (λ (s : State). AllOnTheirWays book.site s) (sym same) (opening-begins book.site book.opening o).1;
-  };
-  quiet = quiet_opened book.site.layout.nofollow ahead (places book.state);
-  watched = subst (λ (ps : List Pending). AreWatched book.state (HasMade book.opening.clock (record { state = book.state; drive = opened book.site.layout.nofollow ahead (places book.state) })) ps) (sym empty) (record {
-    once = pairs_nil (λ (p q : Pending). p.task ≢ q.task);
-    each = λ p c. absurd (none_in p c);
-    all = λ n task agent is has. absurd (no-task n task (subst (λ (ts : List Task). IsTask ts n task) (no_tasks book o same) is));
-  });
-}
+  pub manned_opened : (crew : Crew) (ahead : ℕ) → book.state ≡ book.opening → book.history ≡ [] → 1 ≤ ahead →
+      crew.pending ≡ left_after book.opening.clock book.state.tasks crew.order.vehicles before →
+      Represents crew.order (opened book.site.layout.nofollow ahead (places book.state)) → IsManned book crew (opened book.site.layout.nofollow ahead (places book.state))
+  manned_opened crew ahead same none some left r =
+      let d = opened book.site.layout.nofollow ahead (places book.state) in
+      let opening = book.opening.clock in
+      let sound = begins.beginning.sound in
+      let left_is : crew.pending ≡ left_after opening book.state.tasks d.vehicles before = left ∙ ap (λ (vs : List Vehicle). left_after opening book.state.tasks vs before) r.vehicles in
+      record {
+        in_step = record {
+          represents = r;
+          carried = subst (λ es. IsCarriedOut book.site es (record { state = book.state; drive = d })) (sym none) (carried-opening book.site _ (opening_fleet book ahead begins some));
+          time = (let here : book.state.clock ≡ book.opening.clock = ap (λ (s : State). s.clock) same in omega arith);
+          ways = begins.on_their_ways;
+        };
+        quiet = quiet_opened book.site.layout.nofollow ahead (places book.state);
+        watched = subst (λ (ps : List Pending). AreWatched book.state (HasMade opening (record { state = book.state; drive = d })) ps) (sym left_is)
+            (watched_after opening book.state d NoneIsTold before untold book.state.clock (λ n task is. (sound.tasks n task is).timed) (λ n task is. (sound.tasks n task is).few)
+            (λ v told. absurd told));
+      }
 
 -- one vehicle more is counted
 pub count_more : (p : Vehicle → Bool) (xs : List Vehicle) (i : ℕ) → i < length xs → count_by p (take (i + 1) xs) ≡ count_by p (take i xs) + cond (p (get_or xs i idle)) 1 0

@@ -2,7 +2,6 @@
 
 ghost use Rattle.std.specs.Prelude.{◌≡◌, ◌≢◌, ℕ, ◌+◌, ◌^◌, ◌<◌, ◌≤◌, ◌++◌, ◌∷◌, [], List, Option, OnOk, OnErr, IfOk, IfErr, IfSome, IfNone, Bool, cond, length, true, false, Contains};
 ghost use Rattle.std.specs.Io.KnownBytes.{Appends};
-ghost use Rattle.wh_core.specs.Laws.{IsOpening};
 ghost use Rattle.wh_lines.specs.Output.{WritesFront};
 ghost use Rattle.wh_event.specs.declared.entry.Entry.{Entry as Line};
 ghost use Rattle.wh_replay.specs.Answers.{text_of};
@@ -172,8 +171,9 @@ fn taken_behind<P: Plans>(warehouse: &Warehouse<P>, before: usize) -> Option<Pen
 }
 
 impl Vehicles {
-    /// A vehicle for each agent of a warehouse at its opening, where the agent stands. The clock waits while one is `behind`
-    /// steps or more behind; each may be told `ahead` cells ahead.
+    /// A vehicle for each agent of a warehouse that has no entry yet, where the agent is. Steps count from the clock with which the
+    /// warehouse begins; visits that tasks have by then were told before. The clock waits while a vehicle is `behind` steps or more
+    /// behind; each may be told `ahead` cells ahead.
     pub fn open<P: Plans>(
         alloc: Global,
         warehouse: &Warehouse<P>,
@@ -181,7 +181,6 @@ impl Vehicles {
         ahead: u64,
     ) -> Result<Vehicles, AllocError>
         requires opening { warehouse.now.book.history ≡ [] }
-        requires opened { IsOpening warehouse.now.book.site warehouse.now.book.opening }
         requires some { 1 ≤ ahead }
         ensures manned { IfOk result (λ v. IsManned warehouse.now.book v (opened warehouse.now.book.site.layout.nofollow ahead (places warehouse.now.book.state))) }
         ensures bound { IfOk result (λ v. v.bound ≡ behind) }
@@ -192,7 +191,8 @@ impl Vehicles {
         let order = VisitOrder::open(alloc, row.as_slice(), ahead)?;
         let mut told = Vec::new(alloc);
         told.reserve(row.len())?;
-        let pending = Vec::new(alloc);
+        let mut pending = all_untold(alloc, warehouse)?;
+        keep_left(&mut pending, warehouse, &order);
         Ok(Vehicles {
             order,
             bound: behind,

@@ -1,9 +1,8 @@
 //! A list of commands at once, with planners of its own kind, which count how often they are asked: what `run_events` adds, what
 //! it refuses, and which planner it asks.
 
-ghost use Rattle.std.specs.Prelude.{◌≡◌, ◌+◌, [], IfOk, OnOk, length};
+ghost use Rattle.std.specs.Prelude.{◌≡◌, ◌+◌, [], IfOk, length};
 ghost use Rattle.wh_core.specs.Steps.{Run};
-ghost use Rattle.wh_core.specs.Laws.{IsOpening};
 
 use crate::day::{CALLER, Halt, MAP, POINTS, Parts, planners};
 use crate::stop::bring;
@@ -116,8 +115,7 @@ fn starters(alloc: Global, grid: &Arc<Grid>, agents: usize) -> Result<Vec<Counti
 
 /// The warehouse before the shift. The planner of agent 1 never has memory.
 fn opened(alloc: Global, grid: &Arc<Grid>) -> Result<Warehouse<Counting>, Halt>
-    ensures opening { IfOk result (λ w. IsOpening w.book.site w.book.opening) }
-    ensures history { IfOk result (λ w. w.book.history ≡ []) }
+    ensures { IfOk result (λ w. w.book.history ≡ []) }
 {
     let shared = Arc::try_clone(grid)?;
     let points = Points::read(alloc, grid, POINTS)?;
@@ -164,9 +162,7 @@ fn work<P: Planner>(
     commands: &[Command],
     spares: &mut Vec<P>,
 ) -> Ran
-    requires opening { IsOpening warehouse.old.book.site warehouse.old.book.opening }
-    requires history { warehouse.old.book.history ≡ [] }
-    ensures opening { IsOpening warehouse.new.book.site warehouse.new.book.opening }
+    requires { warehouse.old.book.history ≡ [] }
     ensures counted { result.entries + result.starved ≡ length commands.now }
     ensures entries { length warehouse.new.book.history ≡ result.entries }
     ensures run { Run warehouse.new.book.site warehouse.new.book.opening warehouse.new.book.history warehouse.new.book.state }
@@ -203,9 +199,7 @@ fn run_script<R: Print>(
     warehouse: &mut Warehouse<Counting>,
     spares: &mut Vec<Counting>,
 ) -> Result<(), Halt>
-    requires opening { IsOpening warehouse.old.book.site warehouse.old.book.opening }
-    requires history { warehouse.old.book.history ≡ [] }
-    ensures { OnOk result (IsOpening warehouse.new.book.site warehouse.new.book.opening) }
+    requires { warehouse.old.book.history ≡ [] }
 {
     let commands = commands(alloc)?;
     let Ran { entries, starved } = work(alloc, warehouse, commands.as_slice(), spares);
@@ -224,8 +218,7 @@ fn tell_shift<R: Print>(
     warehouse: &mut Warehouse<Counting>,
     spares: &mut Vec<Counting>,
 ) -> Result<(), Halt>
-    requires opening { IsOpening warehouse.old.book.site warehouse.old.book.opening }
-    requires history { warehouse.old.book.history ≡ [] }
+    requires { warehouse.old.book.history ≡ [] }
 {
     run_script(rt, alloc, warehouse, spares)?;
     bring(rt, alloc, warehouse)

@@ -1,7 +1,5 @@
 //! After a stop: vehicles are brought to where they stood, by a file of what they had reported.
 
-ghost use Rattle.wh_core.specs.Laws.{IsOpening};
-
 use crate::day::Halt;
 use std::alloc::Global;
 use wh_arrivals::{ReadFault, StandFault, read_arrivals, stand};
@@ -35,9 +33,7 @@ impl From<StandFault> for Halt {
 }
 
 /// The vehicles of the warehouse's run, where the file says that they had come. Each is told at most one cell ahead from then on.
-fn stood<P: Planner>(alloc: Global, warehouse: &Warehouse<P>) -> Result<VisitOrder, Halt>
-    requires { IsOpening warehouse.now.book.site warehouse.now.book.opening }
-{
+fn stood<P: Planner>(alloc: Global, warehouse: &Warehouse<P>) -> Result<VisitOrder, Halt> {
     let steps = read_arrivals(alloc, warehouse.agents(), REPORTS)?;
     Ok(stand(alloc, warehouse.book(), 1, steps.as_slice())?)
 }
@@ -66,9 +62,7 @@ pub fn bring<R: Print, P: Planner>(
     rt: &R,
     alloc: Global,
     warehouse: &Warehouse<P>,
-) -> Result<(), Halt>
-    requires { IsOpening warehouse.now.book.site warehouse.now.book.opening }
-{
+) -> Result<(), Halt> {
     let order = stood(alloc, warehouse)?;
     let told = tell_places(rt, &order);
     drop(order);

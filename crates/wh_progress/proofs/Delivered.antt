@@ -13,14 +13,14 @@ use Rattle.wh_tasks.specs.declared.task.Phase.{Phase}
 use Rattle.wh_tasks.specs.Tasks.{IsTask, phase}
 use Rattle.wh_core.specs.States.{State}
 use Rattle.wh_core.specs.Steps.{Step, Run}
-use Rattle.wh_core.specs.Laws.{IsOpening, IsReachedOnTheirWays}
+use Rattle.wh_core.specs.Laws.{IsBeginningOnTheirWays, IsReachedOnTheirWays}
 use Rattle.wh_event.specs.declared.entry.Entry.{Entry}
 use Rattle.wh_event.specs.declared.reply.Refusal.{Refusal}
 use Rattle.wh_event.specs.declared.reply.Reply.{Reply}
-use Rattle.wh_core.proofs.Sound.{sound-reached, kept-reached, opening-reached, ways-reached}
+use Rattle.wh_core.proofs.Sound.{sound-reached, kept-reached, begun-reached, ways-reached}
 use Rattle.wh_progress.specs.Laws.{NoneCanStand}
 use Rattle.wh_core.proofs.Ways.{none_is_refused_a_path}
-use Rattle.wh_progress.specs.Progress.{is_awaited, in_way, open_tasks, legs, span, weight, left_to_do, HaveAtMost, FindPaths, IsRound, Rounds, StandsStill, StoodStill, AreOfTwoPlaces, AllDone}
+use Rattle.wh_progress.specs.Progress.{is_awaited, in_way, open_tasks, legs, span, weight, left_to_do, first_paths_left, HaveAtMost, FindPaths, IsRound, Rounds, StandsStill, StoodStill, AreOfTwoPlaces, AllDone}
 use Rattle.wh_progress.proofs.Sizes.{credits, twice-span}
 use Rattle.wh_progress.proofs.Weighing.{added_by, turn}
 use Rattle.wh_progress.proofs.Rounds.{EachTurns, run-no_more, round-turn, rounds-still}
@@ -72,15 +72,16 @@ reached-rounds site before s [] new r run = (before, subst (λ t. IsReachedOnThe
 reached-rounds site before s (round ∷ rounds) new r run =
     reached-rounds site (before ++ round) run.0 rounds new (reached-run site before round s run.0 r run.1.run) run.2
 
-pub left_is_bounded : (site : Site) (stops : ℕ) (opening : State) (entries : List Entry) (s : State) → site.homes ≡ false → IsOpening site opening → Run site opening entries s →
-    HaveAtMost stops s →
-    left_to_do site stops s ≤ 2 * span site stops * (length site.layout.agents + open_tasks s)
-left_is_bounded site stops opening entries s off o run few =
-    let seats = (sound-reached site entries s (opening-reached site opening entries s o run).reached).seats.paths in
+pub left_is_bounded : (site : Site) (stops : ℕ) (beginning : State) (entries : List Entry) (s : State) → site.homes ≡ false → IsBeginningOnTheirWays site beginning →
+    Run site beginning entries s → HaveAtMost stops s →
+    left_to_do site stops s ≤ 2 * span site stops * (length site.layout.agents + open_tasks s) + first_paths_left beginning s
+left_is_bounded site stops beginning entries s off begins run few =
+    let seats = (sound-reached site entries s (begun-reached site beginning entries s begins run).reached).seats.paths in
     let ways = count_by-le-length (λ path. is_awaited s.tasks (end path)) s.paths in
-    let far = horizon_is_bounded site stops opening entries s off o run few in
-    subst (λ b. (legs b stops * passable_cells site.grid + 1) * weight b s + horizon s.paths ≤ 2 * (legs b stops * passable_cells site.grid + 1) * (length site.layout.agents + open_tasks s)) (sym off)
-    (twice-span (stops * passable_cells site.grid) (in_way s) (open_tasks s) (length site.layout.agents) (horizon s.paths) (omega arith) far)
+    let far = horizon_is_bounded site stops beginning entries s off begins run few in
+    subst (λ b. (legs b stops * passable_cells site.grid + 1) * weight b s + horizon s.paths
+    ≤ 2 * (legs b stops * passable_cells site.grid + 1) * (length site.layout.agents + open_tasks s) + first_paths_left beginning s) (sym off)
+    (twice-span (stops * passable_cells site.grid) (in_way s) (open_tasks s) (length site.layout.agents) (horizon s.paths) (first_paths_left beginning s) (omega arith) far)
 
 pub only_tasks_add : (site : Site) (stops : ℕ) (entries : List Entry) (s : State) (entry : Entry) (new : State) (added : ℕ) → IsReachedOnTheirWays site entries s →
     Step site s entry new → HaveAtMost stops new → length new.tasks ≡ length s.tasks + added →
@@ -123,21 +124,21 @@ each_is_delivered_meanwhile site stops before s new rounds added n task formed s
     done-on stood.state new n on.0 later on.1 is
 
 -- with the bound of what is left to do in numbers
-pub all_is_delivered_within : (site : Site) (stops : ℕ) (opening : State) (before : List Entry) (s new : State) (rounds : List (List Entry)) → site.homes ≡ false →
-    IsFormed site → 0 < length site.layout.agents → IsOpening site opening → Run site opening before s → Rounds site s rounds new →
+pub all_is_delivered_within : (site : Site) (stops : ℕ) (beginning : State) (before : List Entry) (s new : State) (rounds : List (List Entry)) → site.homes ≡ false →
+    IsFormed site → 0 < length site.layout.agents → IsBeginningOnTheirWays site beginning → Run site beginning before s → Rounds site s rounds new →
     length new.tasks ≡ length s.tasks → HaveAtMost stops new → AreOfTwoPlaces new →
-    2 * span site stops * (length site.layout.agents + open_tasks s) ≤ length rounds → AllDone new
-all_is_delivered_within site stops opening before s new rounds off formed some o before_run run same few places enough =
-    let r = opening-reached site opening before s o before_run in
-    let bound = left_is_bounded site stops opening before s off o before_run (few-before stops s new (rounds-later site s rounds new run) few) in
+    2 * span site stops * (length site.layout.agents + open_tasks s) + first_paths_left beginning s ≤ length rounds → AllDone new
+all_is_delivered_within site stops beginning before s new rounds off formed some begins before_run run same few places enough =
+    let r = begun-reached site beginning before s begins before_run in
+    let bound = left_is_bounded site stops beginning before s off begins before_run (few-before stops s new (rounds-later site s rounds new run) few) in
     all_is_delivered site stops before s new rounds formed some r run same few (inr (off, places)) (omega arith)
 
-pub each_is_delivered_within : (site : Site) (stops : ℕ) (opening : State) (before : List Entry) (s new : State) (rounds : List (List Entry)) (added n : ℕ) (task : Task) →
-    site.homes ≡ false → IsFormed site → 0 < length site.layout.agents → IsOpening site opening → Run site opening before s →
+pub each_is_delivered_within : (site : Site) (stops : ℕ) (beginning : State) (before : List Entry) (s new : State) (rounds : List (List Entry)) (added n : ℕ) (task : Task) →
+    site.homes ≡ false → IsFormed site → 0 < length site.layout.agents → IsBeginningOnTheirWays site beginning → Run site beginning before s →
     Rounds site s rounds new → length new.tasks ≡ length s.tasks + added → HaveAtMost stops new → AreOfTwoPlaces new →
-    2 * span site stops * (length site.layout.agents + open_tasks s) + 3 * span site stops * added ≤ length rounds →
+    2 * span site stops * (length site.layout.agents + open_tasks s) + first_paths_left beginning s + 3 * span site stops * added ≤ length rounds →
     IsTask s.tasks n task → (later : Task) × IsTask new.tasks n later × (phase later ≡ Phase.Done)
-each_is_delivered_within site stops opening before s new rounds added n task off formed some o before_run run more few places enough there =
-    let r = opening-reached site opening before s o before_run in
-    let bound = left_is_bounded site stops opening before s off o before_run (few-before stops s new (rounds-later site s rounds new run) few) in
+each_is_delivered_within site stops beginning before s new rounds added n task off formed some begins before_run run more few places enough there =
+    let r = begun-reached site beginning before s begins before_run in
+    let bound = left_is_bounded site stops beginning before s off begins before_run (few-before stops s new (rounds-later site s rounds new run) few) in
     each_is_delivered_meanwhile site stops before s new rounds added n task formed some r run more few (inr (off, places)) (omega arith) there

@@ -39,9 +39,9 @@ some-left w x y h some none =
     let m = mul-le 1 (x + 2 * y) w (x + 2 * y) some (omega arith) in
     (omega arith, omega arith)
 
--- as many agents in the way, and so many steps for each agent
-pub twice-span : (most x y agents h : ℕ) → x ≤ agents → h ≤ agents * most → (most + 1) * (x + 2 * y) + h ≤ 2 * (most + 1) * (agents + y)
-twice-span most x y agents h few far =
+-- as many agents in the way, and so many steps for each agent, beyond some that there were
+pub twice-span : (most x y agents h first : ℕ) → x ≤ agents → h ≤ agents * most + first → (most + 1) * (x + 2 * y) + h ≤ 2 * (most + 1) * (agents + y) + first
+twice-span most x y agents h first few far =
     let w = most + 1 in
     let e = mul-le w (x + 2 * y) w (agents + 2 * y) (omega arith) (omega arith) in
     let f = mul-le agents most agents w (omega arith) (omega arith) in

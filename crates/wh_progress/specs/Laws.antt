@@ -9,10 +9,10 @@ use Rattle.wh_tasks.specs.declared.task.Phase.{Phase}
 use Rattle.wh_tasks.specs.Tasks.{IsTask, IsOpen, phase}
 use Rattle.wh_core.specs.States.{State}
 use Rattle.wh_core.specs.Steps.{Step, Run, IsDue, last_clock}
-use Rattle.wh_core.specs.Laws.{IsOpening, IsReachedOnTheirWays}
+use Rattle.wh_core.specs.Laws.{IsOpening, IsBeginningOnTheirWays, IsReachedOnTheirWays}
 use Rattle.wh_core.specs.Homes.{HasHomes}
 use Rattle.wh_event.specs.declared.entry.Entry.{Entry}
-use Rattle.wh_progress.specs.Progress.{span, left_to_do, open_tasks, HaveAtMost, AreOfTwoPlaces, HasAsked, FindPaths, IsRound, Rounds, StandsStill, StoodStill, IsHeld, AllDone}
+use Rattle.wh_progress.specs.Progress.{span, left_to_do, first_paths_left, open_tasks, HaveAtMost, AreOfTwoPlaces, HasAsked, FindPaths, IsRound, Rounds, StandsStill, StoodStill, IsHeld, AllDone}
 
 -- No order can stand still for good: paths go on home to parkings, or each task has its stops at two cells at most.
 abbrev pub NoneCanStand : Site → State → Type 0
@@ -34,22 +34,22 @@ EachIsDeliveredMeanwhile =
     left_to_do site stops s + 3 * span site stops * added ≤ length rounds →
     IsTask s.tasks n task → (later : Task) × IsTask new.tasks n later × (phase later ≡ Phase.Done)
 
--- Without homes, and from an opening state, the bound in numbers: where each task has its stops at two cells at most, all tasks are
--- done after two spans of rounds for each agent and each open task.
+-- Without homes the bound in numbers: where each task has its stops at two cells at most, all tasks are done after two spans of rounds
+-- for each agent and each open task, and the steps that are left of the paths with which the run began.
 abbrev pub AllIsDeliveredWithin : Type 0
 AllIsDeliveredWithin =
-    (site : Site) (stops : ℕ) (opening : State) (before : List Entry) (s new : State) (rounds : List (List Entry)) → site.homes ≡ false →
-    IsFormed site → 0 < length site.layout.agents → IsOpening site opening → Run site opening before s → Rounds site s rounds new →
+    (site : Site) (stops : ℕ) (beginning : State) (before : List Entry) (s new : State) (rounds : List (List Entry)) → site.homes ≡ false →
+    IsFormed site → 0 < length site.layout.agents → IsBeginningOnTheirWays site beginning → Run site beginning before s → Rounds site s rounds new →
     length new.tasks ≡ length s.tasks → HaveAtMost stops new → AreOfTwoPlaces new →
-    2 * span site stops * (length site.layout.agents + open_tasks s) ≤ length rounds → AllDone new
+    2 * span site stops * (length site.layout.agents + open_tasks s) + first_paths_left beginning s ≤ length rounds → AllDone new
 
 -- While tasks keep coming, too: three spans of rounds more for each that was added meanwhile.
 abbrev pub EachIsDeliveredWithin : Type 0
 EachIsDeliveredWithin =
-    (site : Site) (stops : ℕ) (opening : State) (before : List Entry) (s new : State) (rounds : List (List Entry)) (added n : ℕ) (task : Task) →
-    site.homes ≡ false → IsFormed site → 0 < length site.layout.agents → IsOpening site opening → Run site opening before s →
+    (site : Site) (stops : ℕ) (beginning : State) (before : List Entry) (s new : State) (rounds : List (List Entry)) (added n : ℕ) (task : Task) →
+    site.homes ≡ false → IsFormed site → 0 < length site.layout.agents → IsBeginningOnTheirWays site beginning → Run site beginning before s →
     Rounds site s rounds new → length new.tasks ≡ length s.tasks + added → HaveAtMost stops new → AreOfTwoPlaces new →
-    2 * span site stops * (length site.layout.agents + open_tasks s) + 3 * span site stops * added ≤ length rounds →
+    2 * span site stops * (length site.layout.agents + open_tasks s) + first_paths_left beginning s + 3 * span site stops * added ≤ length rounds →
     IsTask s.tasks n task → (later : Task) × IsTask new.tasks n later × (phase later ≡ Phase.Done)
 
 -- Tasks of two stops are so.
@@ -89,17 +89,24 @@ StillIsDone =
     (site : Site) (entries : List Entry) (s : State) → 0 < length site.layout.agents → IsReachedOnTheirWays site entries s → NoneCanStand site s →
     StandsStill site s → AllDone s
 
--- Without homes, and from an opening state, what is left to do is at most two spans for each agent and each open task.
+-- Without homes, what is left to do is at most two spans for each agent and each open task, and the steps that are left of the paths with
+-- which the run began.
 abbrev pub LeftIsBounded : Type 0
 LeftIsBounded =
-    (site : Site) (stops : ℕ) (opening : State) (entries : List Entry) (s : State) → site.homes ≡ false → IsOpening site opening → Run site opening entries s →
-    HaveAtMost stops s → left_to_do site stops s ≤ 2 * span site stops * (length site.layout.agents + open_tasks s)
+    (site : Site) (stops : ℕ) (beginning : State) (entries : List Entry) (s : State) → site.homes ≡ false → IsBeginningOnTheirWays site beginning →
+    Run site beginning entries s → HaveAtMost stops s →
+    left_to_do site stops s ≤ 2 * span site stops * (length site.layout.agents + open_tasks s) + first_paths_left beginning s
 
--- No agent has then more steps left than a pass over the map for each agent and each stop of a task.
+-- No agent has then more steps left than those, and a pass over the map for each agent and each stop of a task.
 abbrev pub HorizonIsBounded : Type 0
 HorizonIsBounded =
-    (site : Site) (stops : ℕ) (opening : State) (entries : List Entry) (s : State) → site.homes ≡ false → IsOpening site opening → Run site opening entries s →
-    HaveAtMost stops s → horizon s.paths ≤ length site.layout.agents * (stops * passable_cells site.grid)
+    (site : Site) (stops : ℕ) (beginning : State) (entries : List Entry) (s : State) → site.homes ≡ false → IsBeginningOnTheirWays site beginning →
+    Run site beginning entries s → HaveAtMost stops s →
+    horizon s.paths ≤ length site.layout.agents * (stops * passable_cells site.grid) + first_paths_left beginning s
+
+-- Of the paths with which a run from an opening state began nothing is left: the agents stand there.
+abbrev pub OpeningsStand : Type 0
+OpeningsStand = (site : Site) (opening s : State) → IsOpening site opening → first_paths_left opening s ≡ 0
 
 -- No step raises what is left to do, but for three spans at most where it adds a task.
 abbrev pub OnlyTasksAdd : Type 0

@@ -1,5 +1,5 @@
 -- how much is left to do on a site, rounds, which bring it down, and where all stands still; with homes and without
-use Rattle.std.specs.Prelude.{◌≡◌, ◌≢◌, ℕ, ◌+◌, ◌*◌, ◌<◌, ◌≤◌, List, [], ◌∷◌, Bool, true, false, ◌&&◌, ◌||◌, length, map, count_by, take, drop, All, Contains}
+use Rattle.std.specs.Prelude.{◌≡◌, ◌≢◌, ℕ, ◌+◌, ◌-◌, ◌*◌, ◌<◌, ◌≤◌, List, [], ◌∷◌, Bool, true, false, ◌&&◌, ◌||◌, length, map, count_by, take, drop, All, Contains}
 use Rattle.wh_grid.specs.declared.cell.Cell.{Cell}
 use Rattle.wh_grid.specs.Cells.{is_cell}
 use Rattle.wh_grid.specs.Grids.{passable_cells}
@@ -61,6 +61,10 @@ weight true s = open_tasks s
 -- what is left to do, in rounds, where no task has more stops than so many: a span for each that weighs, and what the agents still move
 abbrev pub left_to_do : Site → ℕ → State → ℕ
 left_to_do site stops s = span site stops * weight site.homes s + horizon s.paths
+
+-- how many steps are left of the paths with which a run began: one fewer at each tick, and none from an opening state on
+abbrev pub first_paths_left : State → State → ℕ
+first_paths_left beginning s = horizon beginning.paths - (s.clock - beginning.clock)
 
 -- the agent asked
 abbrev pub HasAsked : List Entry → ℕ → Type 0

@@ -1,7 +1,7 @@
 //! Laws over all rounds. Each function is a law: it does nothing, and its contract is the law.
 
 ghost use Rattle.wh_progress.specs.Laws.{AllIsDelivered, EachRoundBrings, AllComesToRest, RoundsFindPaths, OnlyHeldTasksStand, StillIsDone};
-ghost use Rattle.wh_progress.specs.Laws.{LeftIsBounded, HorizonIsBounded, OnlyTasksAdd, RoundsCanBeHad, DueUntilAsked, TwoStopsAreTwoPlaces, EachIsDeliveredMeanwhile};
+ghost use Rattle.wh_progress.specs.Laws.{LeftIsBounded, HorizonIsBounded, OpeningsStand, OnlyTasksAdd, RoundsCanBeHad, DueUntilAsked, TwoStopsAreTwoPlaces, EachIsDeliveredMeanwhile};
 ghost use Rattle.wh_progress.specs.Laws.{AllIsDeliveredWithin, EachIsDeliveredWithin};
 
 /// On a well-formed instance where no order can stand still for good (paths go on home to parkings, or each task has its stops at
@@ -15,8 +15,8 @@ pub fn each_is_delivered_meanwhile()
     ensures { EachIsDeliveredMeanwhile }
 {}
 
-/// Without homes, and from an opening state: where each task has its stops at two cells at most, all tasks are done after two spans
-/// of rounds for each agent and each open task.
+/// Without homes: where each task has its stops at two cells at most, all tasks are done after two spans of rounds for each agent and
+/// each open task, and the steps that are left of the paths with which the run began.
 pub fn all_is_delivered_within()
     ensures { AllIsDeliveredWithin }
 {}
@@ -52,14 +52,20 @@ pub fn still_is_done()
     ensures { StillIsDone }
 {}
 
-/// Without homes, and from an opening state, what is left to do is at most two spans for each agent and each open task.
+/// Without homes, what is left to do is at most two spans for each agent and each open task, and the steps that are left of the
+/// paths with which the run began.
 pub fn left_is_bounded()
     ensures { LeftIsBounded }
 {}
 
-/// No agent has then more steps left than a pass over the map for each agent and each stop of a task.
+/// No agent has then more steps left than those, and a pass over the map for each agent and each stop of a task.
 pub fn horizon_is_bounded()
     ensures { HorizonIsBounded }
+{}
+
+/// Of the paths with which a run from an opening state began nothing is left.
+pub fn openings_stand()
+    ensures { OpeningsStand }
 {}
 
 /// No step raises what is left to do, but for three spans at most where it adds a task.
