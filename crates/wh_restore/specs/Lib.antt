@@ -3,3 +3,4 @@ pub mod Flaws
 pub mod FirstFlawed
 pub mod Restoring
 pub mod Texts
+pub mod Heads

@@ -12,7 +12,7 @@ use wh_stand::Flaw;
 
 fn plain(text: &[u8]) -> ArrayVec<u8, 64>
     requires { length text.now ≤ 20 }
-    ensures { result.items ≡ text.now }
+    ensures text { result.items ≡ text.now }
 {
     let mut line = ArrayVec::new();
     put(&mut line, text);
@@ -20,8 +20,9 @@ fn plain(text: &[u8]) -> ArrayVec<u8, 64>
 }
 
 fn with_number(text: &[u8], number: u32) -> ArrayVec<u8, 64>
-    requires { length text.now ≤ 20 }
-    ensures { result.items ≡ text.now ++ decimal number }
+    requires { length text.now ≤ 12 }
+    ensures text { result.items ≡ text.now ++ decimal number }
+    ensures short { length result.items ≤ 22 }
 {
     let mut line = ArrayVec::new();
     put_number(&mut line, text, u64::from(number));
@@ -29,8 +30,9 @@ fn with_number(text: &[u8], number: u32) -> ArrayVec<u8, 64>
 }
 
 fn with_cell(text: &[u8], cell: Cell) -> ArrayVec<u8, 64>
-    requires { length text.now ≤ 20 }
-    ensures { result.items ≡ text.now ++ cell_word cell }
+    requires { length text.now ≤ 11 }
+    ensures text { result.items ≡ text.now ++ cell_word cell }
+    ensures short { length result.items ≤ 22 }
 {
     let mut line = ArrayVec::new();
     put_number(&mut line, text, u64::from(cell.x));
@@ -39,7 +41,8 @@ fn with_cell(text: &[u8], cell: Cell) -> ArrayVec<u8, 64>
 }
 
 fn flaw_text(flaw: Flaw) -> ArrayVec<u8, 64>
-    ensures { result.items ≡ texts.flaw_text flaw }
+    ensures text { result.items ≡ texts.flaw_text flaw }
+    ensures short { length result.items ≤ 22 }
 {
     match flaw {
         Flaw::Agents => plain(b"refused S2"),
@@ -55,15 +58,17 @@ fn flaw_text(flaw: Flaw) -> ArrayVec<u8, 64>
 }
 
 impl Reason {
-    /// What is written of it, without a line feed, as `refused S5 2`.
+    /// What is written of it, without a line feed, as `refused S5 2`: at most 22 bytes.
     pub fn text(self) -> ArrayVec<u8, 64>
-        ensures { result.items ≡ texts.reason_text self }
+        ensures text { result.items ≡ texts.reason_text self }
+        ensures short { length result.items ≤ 22 }
     {
         match self {
             Reason::Form => plain(b"refused S1"),
             Reason::Count => plain(b"refused S2"),
             Reason::Flaw(flaw) => flaw_text(flaw),
             Reason::Rules => plain(b"refused S11"),
+            Reason::Stray(agent) => with_number(b"refused S13 ", agent),
         }
     }
 }

@@ -5,14 +5,12 @@ use Rattle.wh_points.specs.Points.{Site}
 use Rattle.wh_words.specs.Lines.{text_of}
 use Rattle.wh_text.specs.Lines.{IsLine}
 use Rattle.wh_log.specs.Logs.{head_line}
-use Rattle.wh_log.specs.FirstBad.{Begins}
 use Rattle.wh_log.specs.Torn.{IsUnopened}
 use Rattle.wh_log.proofs.LineLaws.{one_line, not_whole, one_text}
 use Rattle.wh_log.proofs.HeadLaws.{head_is_line}
-use Rattle.wh_resume.specs.declared.recovery.Resumed.{Resumed}
 use Rattle.wh_resume.specs.declared.recovery.Recovery.{Recovery}
 use Rattle.wh_resume.specs.declared.recovery.Recovery.TheVariants as told
-use Rattle.wh_resume.specs.Resuming.{IsRunOf, IsFront, EndsBefore, BreaksOff, BeginsOtherwise, TellsOther, Tells, FrontsAreResumed}
+use Rattle.wh_resume.specs.Resuming.{IsFront, EndsBefore, TellsOther, Tells}
 
 -- as many lines at the front of one text are the same lines
 pub same_lines : (a b : List (List ℕ)) (x y : List ℕ) → AllByRecursion IsLine a → AllByRecursion IsLine b → length a ≡ length b → text_of a ++ x ≡ text_of b ++ y → a ≡ b
@@ -47,7 +45,9 @@ ends_before_one text line rest is e =
 pub other_told : (site : Site) (begun text : List ℕ) (said : Recovery) → TellsOther text said → IsUnopened text → (IsFront text begun → ⊥) → Tells site begun text said
 other_told site begun text (told.Resumed r) t unopened other = absurd t
 other_told site begun text (told.Unopened setting) t unopened other = absurd t
-other_told site begun text (told.Bad line bytes) t unopened other = (t, inr (record { unopened = unopened; other = other }))
+other_told site begun text (told.Flawed line reason) t unopened other = absurd t
+other_told site begun text (told.Stray line agent) t unopened other = absurd t
+other_told site begun text (told.Bad line bytes) t unopened other = (t, inr (inr (record { unopened = unopened; other = other })))
 
 -- where two lines stand whole a run was begun
 pub not_unopened : (before : List (List ℕ)) (rest : List ℕ) → AllByRecursion IsLine before → 2 ≤ length before → IsUnopened (text_of before ++ rest) → ⊥
@@ -62,25 +62,3 @@ take_front (x ∷ xs) ys = ap (λ (l : List ℕ). x ∷ l) (take_front xs ys)
 -- the bytes before the line
 pub front_is : (text : List ℕ) (line bytes : ℕ) (e : EndsBefore text line bytes) → take bytes text ≡ text_of e.before
 front_is text line bytes e = ap (λ (n : ℕ). take n text) e.bytes_are ∙ ap (λ (t : List ℕ). take (length (text_of e.before)) t) e.parts ∙ take_front (text_of e.before) e.rest
-
--- where a run begins with two lines or more, it is found
-begun_is_resumed : (site : Site) (other text : List ℕ) (before : List (List ℕ)) (said : Recovery) → AllByRecursion IsLine before → 2 ≤ length before → text ≡ text_of before ++ []
-    → Begins (IsRunOf site) text → Tells site other text said → (r : Resumed) × (said ≡ told.Resumed r)
-begun_is_resumed site other text before (told.Resumed r) h two is begins t = (r, refl)
-begun_is_resumed site other text before (told.Unopened setting) h two is begins t = absurd (not_unopened before [] h two (subst (λ (x : List ℕ). IsUnopened x) is t.0))
-begun_is_resumed site other text before (told.Bad line bytes) h two is begins (e, inl breaks) = absurd (breaks.never begins)
-begun_is_resumed site other text before (told.Bad line bytes) h two is begins (e, inr otherwise) = absurd (not_unopened before [] h two (subst (λ (x : List ℕ). IsUnopened x) is otherwise.unopened))
-
-front_resumed : (site : Site) (begun other text : List ℕ) (line bytes : ℕ) (said : Recovery) (e : EndsBefore text line bytes) → BreaksOff site text line ⊎ BeginsOtherwise begun text → 3 ≤ line
-    → Tells site other (take bytes text) said → (r : Resumed) × (said ≡ told.Resumed r)
-front_resumed site begun other text line bytes said e (inl breaks) three t =
-    let bad = breaks.bad in
-    let same : e.before ≡ bad.before = same_lines e.before bad.before e.rest bad.rest e.lines bad.lines (omega (arith, e.place, bad.place)) (sym e.parts ∙ bad.parts) in
-    let front : take bytes text ≡ text_of bad.before = front_is text line bytes e ∙ ap text_of same in
-    begun_is_resumed site other (take bytes text) bad.before said bad.lines (omega (arith, bad.place, three)) (front ∙ sym (append-nil (text_of bad.before)))
-    (subst (λ (x : List ℕ). Begins (IsRunOf site) x) (sym front) bad.begins) t
-front_resumed site begun other text line bytes said e (inr otherwise) three t =
-    absurd (not_unopened e.before e.rest e.lines (omega (arith, e.place, three)) (subst (λ (x : List ℕ). IsUnopened x) e.parts otherwise.unopened))
-
-pub fronts_are_resumed : FrontsAreResumed
-fronts_are_resumed site begun other text line bytes said bad three t = front_resumed site begun other text line bytes said bad.0 bad.1 three t

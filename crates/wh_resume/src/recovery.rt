@@ -3,19 +3,34 @@
 
 ghost use Rattle.std.specs.Prelude.{◌≡◌, ◌≤◌, IfOk, length};
 ghost use Rattle.wh_points.specs.Points.{IsLayout};
-ghost use Rattle.wh_resume.specs.Resuming.{TellsFrom, TellsOther};
+ghost use Rattle.wh_resume.specs.Resuming.{TellsFrom};
 
-use crate::fronts::is_front;
-use crate::keeper::{Keeper, Parts};
+use crate::behind::recover_three;
+use crate::title::{TITLE_BYTES, is_version_three, read_from};
+use crate::two::recover_two;
 use std::alloc::Global;
-use wh_judge::{Book, Instance, Opening, Setting};
-use wh_log::{Front, NoMemory, Source, SourceFault, Version, follow_front};
-use wh_words::whole_line;
+use wh_front::Rows;
+use wh_judge::{Book, Setting};
+use wh_log::{Source, SourceFault, Version};
+use wh_restore::{Head, Reason};
+
+/// What the front of a log tells beside the state.
+#[derive(Drop)]
+pub struct Preface {
+    /// What it tells of the run.
+    pub head: Head,
+    /// Who submitted each task, by the tasks' numbers.
+    pub callers: Rows<u32>,
+    /// How many lines the front has.
+    pub lines: u64,
+    /// The bytes of these lines.
+    pub text: Vec<u8>,
+}
 
 /// A book that goes on from what a log tells.
 #[derive(Drop)]
 pub struct Resumed {
-    /// The version of the log.
+    /// The version of the log; of one that begins with a state it is 2, that of its entries.
     pub version: Version,
     /// The book: its history is the log's entries.
     pub book: Book,
@@ -23,6 +38,8 @@ pub struct Resumed {
     pub bytes: usize,
     /// Whether the end line follows them.
     pub is_ended: bool,
+    /// What the front tells beside the state, where the log begins with a state: it is of version 3. None of versions 1 and 2.
+    pub preface: Option<Preface>,
 }
 
 /// What a text is to a warehouse that is to go on.
@@ -33,28 +50,22 @@ pub enum Recovery {
     Resumed(Resumed),
     /// Fewer than two lines stand whole, and the text is a front of the two that were to be written: no run was begun.
     Unopened(Setting),
+    /// A log of version 3 with no front of a sound state: the first line of it that has a flaw, from 1, and its first flaw.
+    /// Slots outside 2 to 64 are a flaw of form.
+    Flawed { line: u64, reason: Reason },
+    /// A log of version 3 whose front tells a sound state, and the first agent that is not on its way in it, with the number
+    /// of its line.
+    Stray { line: u64, agent: u32 },
     /// No beginning of such a log: the first line, from 1, that is not in the format or whose entry is no step, or that is
     /// not whole and is not as it was to be written. The lines before it are good, and are this many bytes.
     Bad { line: u64, bytes: usize },
 }
 
-/// What a text is that was not begun as it was to be.
-fn begun_otherwise(text: &[u8]) -> Recovery
-    ensures { TellsOther text.now result }
-{
-    match whole_line(text) {
-        None => Recovery::Bad { line: 1, bytes: 0 },
-        Some((_, rest)) => Recovery::Bad {
-            line: 2,
-            bytes: text.len() - rest.len(),
-        },
-    }
-}
-
 /// Recovers the book of the run that a log tells, as far as its lines stand whole. Whether paths are to end at the last stop
-/// or to go on home, the setting tells. The log may have been cut anywhere. A text in which not even the first two lines
-/// stand whole is taken for a run that was not begun only where it is a front of the two lines that would begin it: no other
-/// file is. Only the book, a piece and a line of what is read are kept.
+/// or to go on home, the setting tells. The log may have been cut anywhere, but for the front of one of version 3. A text in
+/// which not even the first two lines stand whole is taken for a run that was not begun only where it is a front of the two
+/// lines that would begin it: no other file is. Of a log of version 1 or 2 only the book, a piece and a line of what is read
+/// are kept; one of version 3 is read to its end first, and what follows its front is held once more while it is told.
 ///
 /// Errors: `Unread` where the log cannot be read to its end, or to its first bad line; `NoMemory`.
 pub fn recover<S: Source>(
@@ -67,63 +78,23 @@ pub fn recover<S: Source>(
     ensures told { IfOk result (TellsFrom setting begun.now (S.held source.old)) }
     ensures same { S.held source.new ≡ S.held source.old }
 {
-    let _agents = setting.agents();
-    let instance = Instance::with_homes(setting.grid(), setting.points(), setting.homes());
-    let mut keeper = match Keeper::new(alloc, instance) {
-        Ok(keeper) => keeper,
-        Err(NoMemory) => {
-            drop(setting);
-            return Err(SourceFault::NoMemory);
-        }
-    };
-    let front = match follow_front(alloc, &mut keeper, source) {
-        Ok(front) => front,
-        Err(fault) => {
-            drop(keeper);
-            drop(setting);
-            return Err(fault);
-        }
-    };
-    match front {
-        Front::Whole {
-            version,
-            bytes,
-            is_ended,
-            ..
-        } => {
-            let Parts {
-                first_clock,
-                first_slots,
-                floor,
-                history,
-            } = keeper.into_parts();
-            let first = Opening::Starts {
-                clock: first_clock,
-                slots: first_slots,
-            };
-            let book = Book::resume(setting, first, floor, history);
-            Ok(Recovery::Resumed(Resumed {
-                version,
-                book,
-                bytes,
-                is_ended,
-            }))
-        }
-        Front::Unopened { text } => {
-            drop(keeper);
-            if is_front(text.as_slice(), begun) {
-                drop(text);
-                return Ok(Recovery::Unopened(setting));
-            }
-            drop(setting);
-            let told = begun_otherwise(text.as_slice());
-            drop(text);
-            Ok(told)
-        }
-        Front::Bad { line, bytes } => {
-            drop(keeper);
-            drop(setting);
-            Ok(Recovery::Bad { line, bytes })
-        }
+    let mut text = Vec::new(alloc);
+    if let Err(fault) = read_from(source, &mut text, TITLE_BYTES) {
+        drop(text);
+        drop(setting);
+        return Err(fault);
+    }
+    if !is_version_three(text.as_slice()) {
+        drop(text);
+        return recover_two(alloc, setting, begun, source);
+    }
+    if let Err(fault) = read_from(source, &mut text, usize::MAX) {
+        drop(text);
+        drop(setting);
+        return Err(fault);
+    }
+    match recover_three(alloc, setting, text) {
+        Ok(recovery) => Ok(recovery),
+        Err(fault) => Err(fault),
     }
 }

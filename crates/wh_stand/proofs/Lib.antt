@@ -8,3 +8,5 @@ pub mod Contradicting
 pub mod Telling
 pub mod Built
 pub mod Whole
+pub mod Passing
+pub mod Strays

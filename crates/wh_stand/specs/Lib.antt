@@ -6,3 +6,4 @@ pub mod Flawless
 pub mod Columns
 pub mod Building
 pub mod Whole
+pub mod Ways

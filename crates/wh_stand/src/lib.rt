@@ -10,10 +10,12 @@ pub mod laws;
 mod motion;
 mod parts;
 mod stations;
+mod ways;
 mod work;
 
 pub use builder::StateBuilder;
 pub use flaw::{Flaw, Refused};
+pub use ways::first_stray;
 
 // handed on, for callers: what the items above return
 pub use wh_state::StateParts;

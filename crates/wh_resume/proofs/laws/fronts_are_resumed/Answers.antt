@@ -1,4 +1,4 @@
-use Rattle.wh_resume.proofs.Walks.{fronts_are_resumed}
+use Rattle.wh_resume.proofs.Resumes.{fronts_are_resumed}
 use Rattle.wh_resume.proofs.laws.fronts_are_resumed.Goals as goal
 
 pub returns : goal.returns
