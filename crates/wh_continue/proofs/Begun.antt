@@ -10,21 +10,23 @@ use Rattle.wh_event.specs.declared.entry.Entry.{Entry}
 use Rattle.wh_log.specs.declared.version.Version.{Version}
 use Rattle.wh_log.specs.declared.version.Version.TheVariants.{Two}
 use Rattle.wh_log.specs.Logs.{Content, end_line}
-use Rattle.wh_log.specs.Torn.{begun_lines, Holds}
+use Rattle.wh_log.specs.Torn.{begun_lines}
 use Rattle.wh_log.proofs.Fronts.{text-append}
 use Rattle.wh_journal.specs.Cutting.{front_of, MayCut}
 use Rattle.wh_journal.specs.Scripts.{WritesFront}
+use Rattle.wh_journal.specs.Journals.{lines_for}
 use Rattle.wh_journal.specs.Surviving.{told_by, IsLogOfBook, HoldsLog, StaysLog}
+use Rattle.wh_journal.proofs.Telling.{log_of_two, two_lines}
 use Rattle.wh_resume.specs.Resuming.{Tells}
 use Rattle.wh_resume.specs.declared.recovery.Recovery.{Recovery}
 use Rattle.wh_resume.specs.declared.recovery.Recovery.TheVariants as told
-use Rattle.wh_continue.specs.Starting.{Begins, BreaksAt, GoesOnFrom, StartsIn, first_lines}
+use Rattle.wh_continue.specs.Starting.{Begins, BreaksAt, GoesOnIn, first_lines}
 use Rattle.wh_continue.specs.declared.running.KeepFault.{KeepFault}
 use Rattle.wh_continue.specs.Renewing.{LeavesHalfRenewed, in_two, told_in_two}
-use Rattle.wh_continue.specs.Running.{ClosedLogsAreWhole, IsStartOf, IsKeptLog, IsLeft, IsLeftAt, LeavesFront, Opens, from_opening, opening_lines, closing, last_line}
+use Rattle.wh_continue.specs.Running.{ClosedLogsAreWhole, IsBegunFrom, IsStartOf, IsKeptLog, IsLeft, IsLeftAt, LeavesFront, Opens, from_opening, log_from, opening_lines, closing, last_line}
 use Rattle.wh_continue.specs.Opening.{IsOpened}
 use Rattle.wh_continue.specs.declared.starting.Start.{Start}
-use Rattle.wh_continue.proofs.Closing.{holds_in_two, whole_is_log}
+use Rattle.wh_continue.proofs.Closing.{begins_at, goes_at, whole_in}
 
 -- what stands for a file: it holds the book's log, if it tells its bytes, and does tell them if it did
 pub record Stands (file new : Option (List ℕ)) (book : Seen) : Type 0 where
@@ -33,7 +35,8 @@ pub record Stands (file new : Option (List ℕ)) (book : Seen) : Type 0 where
 
 opening_of_none : (book : Seen) → book.history ≡ [] → IsLogOfBook (Some (opening_lines book)) book
 opening_of_none book none =
-    ap (λ (es : List Entry). Some (lines_text (begun_lines Two (let c : Content = record { clock = book.opening.clock; slots = book.opening.slots; entries = es } in c)))) (sym none)
+    log_of_two (Some (opening_lines book)) book
+    (ap (λ (es : List Entry). Some (lines_text (begun_lines Two (let c : Content = record { clock = book.opening.clock; slots = book.opening.slots; entries = es } in c)))) (sym none))
 
 opening_is_log : (site : Site) (slots text : List ℕ) (book : Seen) → Begins site slots text book → IsLogOfBook (Some (opening_lines book)) book
 opening_is_log site slots text book begins = opening_of_none book begins.unbegun.history_is
@@ -50,7 +53,14 @@ never_opened start is opened =
     cc
 
 stands_some : (text : List ℕ) (new : Option (List ℕ)) (book : Seen) → IsLogOfBook new book → Stands (Some text) new book
-stands_some text new book is = record { stays = is; holds = subst (λ (n : Option (List ℕ)). HoldsLog n book) (sym is) refl }
+stands_some text new book is = record {
+  stays = is;
+  holds = subst (λ (n : Option (List ℕ)). HoldsLog n book) (sym is.journal_is) (record { head = is.head; is_head = is.is_head; journal_is = refl });
+}
+
+-- the same journal
+log_is : (new : Option (List ℕ)) (text : List ℕ) (book : Seen) → new ≡ Some text → IsLogOfBook (Some text) book → IsLogOfBook new book
+log_is new text book is log = subst (λ (n : Option (List ℕ)). IsLogOfBook n book) (sym is) log
 
 -- where the run goes on, the file was cut behind its whole lines
 pub begun_found : (file new : Option (List ℕ)) (start : Start) (bytes : ℕ) → IsStartOf file start → start.bytes ≡ Some bytes → new ≡ front_of bytes (told_in_two start.version file) → Stands file new start.book
@@ -59,12 +69,19 @@ begun_found (Some text) new start bytes (inr of) is cut =
     let version : start.version ≡ Two = ap (λ (s : Start). s.version) of.start_is in
     let count : bytes ≡ length (opening_lines start.book) = ap (λ (b : Option ℕ). unwrap_or b 0) (sym is ∙ ap (λ (s : Start). s.bytes) of.start_is) in
     let front : new ≡ front_of bytes (Some text) = subst (λ (v : Version). new ≡ front_of bytes (told_in_two v (Some text))) version cut in
-    stands_some text new start.book (opened_whole text (opening_lines start.book) new bytes of.text_is count front ∙ opening_of_none start.book of.history_is)
+    stands_some text new start.book (log_is new (opening_lines start.book) start.book (opened_whole text (opening_lines start.book) new bytes of.text_is count front) (opening_of_none start.book of.history_is))
 begun_found (Some text) new start bytes (inl of) is cut =
-    let from : GoesOnFrom of.0 start.version text bytes start.book =
-    subst (λ (b : Option ℕ). StartsIn of.0 of.1 text (record { book = start.book; bytes = b; version = start.version })) is of.2 in
-    let holds : Holds Two from.content from.is_ended (in_two start.version text) bytes = holds_in_two start.version from.content from.is_ended text bytes from.holds in
-    stands_some text new start.book (cut ∙ whole_is_log of.0 from.content from.is_ended (in_two start.version text) bytes start.book holds from.goes_on)
+    let from : GoesOnIn of.0 start.preface start.version text bytes start.book = goes_at of.0 of.1 text start.preface start.version start.book start.bytes bytes is of.2.at in
+    stands_some text new start.book (log_is new (take bytes (in_two start.version text)) start.book cut (whole_in of.0 start.preface start.version text bytes start.book from))
+
+-- it has these very bytes
+pub begun_from : (file new : Option (List ℕ)) (start : Start) (bytes : ℕ) → start.bytes ≡ Some bytes → new ≡ front_of bytes (told_in_two start.version file) → IsBegunFrom start file new
+begun_from None new start bytes is cut = tt
+begun_from (Some text) new start bytes is cut = cut ∙ ap (λ (b : Option ℕ). Some (log_from b start.version (opening_lines start.book) text)) (sym is)
+
+pub begun_from_new : (file new : Option (List ℕ)) (start : Start) → start.bytes ≡ None → Opens file new (opening_lines start.book) → IsBegunFrom start file new
+begun_from_new None new start is opens = tt
+begun_from_new (Some text) new start is opens = opens ∙ ap (λ (b : Option ℕ). Some (log_from b start.version (opening_lines start.book) text)) (sym is)
 
 -- the two lines stand alone in a file that was emptied
 opened_alone : (bytes : List ℕ) (new : Option (List ℕ)) → Appends (Some []) new bytes → new ≡ Some bytes
@@ -97,9 +114,8 @@ pub begun_new : (file new : Option (List ℕ)) (start : Start) → IsStartOf fil
 begun_new None new start of is opens = record { stays = tt; holds = subst (λ (n : Option (List ℕ)). HoldsLog n start.book) (sym opens) tt }
 begun_new (Some text) new start (inr of) is opens = absurd (never_opened start is of.start_is)
 begun_new (Some text) new start (inl of) is opens =
-    let from : Begins of.0 of.1 text start.book =
-    subst (λ (b : Option ℕ). StartsIn of.0 of.1 text (record { book = start.book; bytes = b; version = start.version })) is of.2 in
-    stands_some text new start.book (opens ∙ opening_is_log of.0 of.1 text start.book from)
+    let from : Begins of.0 of.1 text start.book = (begins_at of.0 of.1 text start.preface start.version start.book start.bytes is of.2.at).0 in
+    stands_some text new start.book (log_is new (opening_lines start.book) start.book opens (opening_is_log of.0 of.1 text start.book from))
 
 -- ---- a log that is begun before the file beside it
 
@@ -108,8 +124,7 @@ pub opened_here : (file new : Option (List ℕ)) (start : Start) → IsStartOf f
 opened_here None new start of is opens = subst (λ (n : Option (List ℕ)). IsStartOf n (from_opening start.book)) (sym opens) tt
 opened_here (Some text) new start (inr of) is opens = absurd (never_opened start is of.start_is)
 opened_here (Some text) new start (inl of) is opens =
-    let from : Begins of.0 of.1 text start.book =
-    subst (λ (b : Option ℕ). StartsIn of.0 of.1 text (record { book = start.book; bytes = b; version = start.version })) is of.2 in
+    let from : Begins of.0 of.1 text start.book = (begins_at of.0 of.1 text start.preface start.version start.book start.bytes is of.2.at).0 in
     subst (λ (n : Option (List ℕ)). IsStartOf n (from_opening start.book)) (sym opens) (inr (record { text_is = refl; start_is = refl; history_is = from.unbegun.history_is }))
 
 pub opened_so : (file new : Option (List ℕ)) (start : Start) → start.bytes ≡ None → Opens file new (opening_lines start.book) → IsOpened start (from_opening start.book) file new
@@ -130,7 +145,7 @@ left_found None new start bytes is half = tt
 left_found (Some text) new start bytes is half = (
   half.0,
   half.1,
-  subst (λ (b : Option ℕ). IsLeftAt (record { book = start.book; bytes = b; version = start.version }) text half.0) (sym is) half.2,
+  subst (λ (b : Option ℕ). IsLeftAt (record { book = start.book; bytes = b; version = start.version; preface = start.preface; before = start.before }) text half.0) (sym is) half.2,
 )
 
 pub left_new : (file new : Option (List ℕ)) (start : Start) → start.bytes ≡ None
@@ -139,21 +154,33 @@ left_new None new start is left = tt
 left_new (Some text) new start is left = (
   left.0,
   left.1,
-  subst (λ (b : Option ℕ). IsLeftAt (record { book = start.book; bytes = b; version = start.version }) text left.0) (sym is) left.2,
+  subst (λ (b : Option ℕ). IsLeftAt (record { book = start.book; bytes = b; version = start.version; preface = start.preface; before = start.before }) text left.0) (sym is) left.2,
 )
 
 -- the log of the book and what ends it are the log that is kept
 pub ended : (kept holds : Option (List ℕ)) (book : Seen) → IsLogOfBook kept book → Appends kept holds (closing book.state.closed (length book.history)) → IsKeptLog holds book
-ended kept None book log ends = absurd (subst (λ (k : Option (List ℕ)). Appends k None (closing book.state.closed (length book.history))) log ends)
-ended kept (Some bytes) book log ends =
-    ap (λ (l : List ℕ). Some l) (subst (λ (k : Option (List ℕ)). Appends k (Some bytes) (closing book.state.closed (length book.history))) log ends)
+ended kept holds book log ends = record {
+  head = log.head;
+  is_head = log.is_head;
+  journal_is = opened_alone_behind (log.head ++ lines_for book.history) (closing book.state.closed (length book.history)) holds
+      (subst (λ (k : Option (List ℕ)). Appends k holds (closing book.state.closed (length book.history))) log.journal_is ends);
+}
+  where
+    opened_alone_behind : (text bytes : List ℕ) (new : Option (List ℕ)) → Appends (Some text) new bytes → new ≡ Some (text ++ bytes)
+    opened_alone_behind text bytes None a = absurd a
+    opened_alone_behind text bytes (Some ys) a = ap (λ (l : List ℕ). Some l) a
 
 pub closed_whole : ClosedLogsAreWhole
-closed_whole journal book kept closed =
-    kept
-    ∙ ap (λ (l : List ℕ). Some l)
-    (ap (λ (b : Bool). lines_text (begun_lines Two (told_by book)) ++ closing b (length book.history)) closed
-    ∙ sym (text-append (begun_lines Two (told_by book)) (end_line (length book.history) ∷ [])))
+closed_whole journal book kept closed = elim kept.is_head [
+  | inl two ↦ inl (all_is ∙ ap (λ (l : List ℕ). Some l)
+      (ap (λ (h : List ℕ). (h ++ lines_for book.history) ++ last_line (length book.history)) two
+      ∙ ap (λ (t : List ℕ). t ++ last_line (length book.history)) (sym (two_lines (told_by book)))
+      ∙ sym (text-append (begun_lines Two (told_by book)) (end_line (length book.history) ∷ []))))
+  | inr tells ↦ inr (record { front = kept.head; tells = tells; journal_is = all_is })
+]
+  where
+    all_is : journal ≡ Some ((kept.head ++ lines_for book.history) ++ last_line (length book.history))
+    all_is = kept.journal_is ∙ ap (λ (b : Bool). Some ((kept.head ++ lines_for book.history) ++ closing b (length book.history))) closed
 
 abbrev no_bytes : List ℕ
 no_bytes = []
@@ -190,4 +217,4 @@ pub whole_log : (file begun kept holds : Option (List ℕ)) (old new : Seen) →
     → Appends kept holds (closing new.state.closed (length new.history)) → IfSome file (λ (_ : List ℕ). IsKeptLog holds new)
 whole_log None begun kept holds old new first then ends = tt
 whole_log (Some text) begun kept holds old new first then ends =
-    ended kept holds new (subst (λ (b : Option (List ℕ)). StaysLog b kept new) first then) ends
+    ended kept holds new (subst (λ (b : Option (List ℕ)). StaysLog b kept new) first.journal_is then) ends

@@ -1,41 +1,18 @@
 -- What is delivered behind a script, over its journal.
-use Rattle.std.proofs.Common.{◌≡◌, ◌∙◌, ℕ, List, ◌++◌, ap, sym, subst, Option, None, Some, Result, Ok, Err}
+use Rattle.std.proofs.Common.{◌≡◌, ℕ, List, ap, sym, subst, Option, None, Some, Result, Ok, Err}
 use Rattle.std.specs.Prelude.{Bool, OnOk, IfErr}
-use Rattle.std.specs.Io.KnownBytes.{Appends, Keeps}
-use Rattle.wh_words.specs.Lines.{text_of as lines_text}
-use Rattle.wh_core.specs.States.{State}
+use Rattle.std.specs.Io.KnownBytes.{Keeps}
 use Rattle.wh_resume.specs.Drafts.{Seen}
-use Rattle.wh_event.specs.declared.entry.Entry.{Entry}
-use Rattle.wh_log.specs.declared.version.Version.TheVariants.{Two}
-use Rattle.wh_log.specs.Logs.{Content}
-use Rattle.wh_log.specs.Torn.{begun_lines}
 use Rattle.wh_replay.specs.declared.asker.Asker.{Asker}
-use Rattle.wh_journal.specs.Journals.{lines_for}
 use Rattle.wh_journal.specs.Keeping.{Held, IsSafe, KeepsAll, KeepsFront}
-use Rattle.wh_journal.specs.Surviving.{told_by, IsLogOfBook, StaysLog}
-use Rattle.wh_journal.proofs.Surviving.{begun_grown}
-use Rattle.wh_deliver.specs.Delivers.{DeliversShort, KeepsShort, MayDeliver}
+use Rattle.wh_journal.specs.Surviving.{StaysLog}
+use Rattle.wh_journal.proofs.Telling.{log_grows}
+use Rattle.wh_deliver.specs.Delivers.{KeepsShort}
 use Rattle.wh_deliver.specs.Appending.{logged}
 use Rattle.wh_deliver.specs.declared.delivering.DeliverFault.{DeliverFault}
 use Rattle.wh_deliver.specs.declared.delivering.DeliverFault.TheVariants.{NoMemory, TooMany, Unkept, Unwritten}
 use Rattle.wh_deliver.proofs.Grown.{grows}
 use Rattle.wh_continue.specs.Delivering.{DeliversOver, StandsShort}
-
-appended : (holds : Option (List ℕ)) (text bytes : List ℕ) → Appends (Some text) holds bytes → holds ≡ Some (text ++ bytes)
-appended None text bytes p = absurd p
-appended (Some x) text bytes p = ap (λ (l : List ℕ). Some l) p
-
--- the log of a book and the lines of further entries are the log of the book that has grown by them
-log_grows : (kept full : Option (List ℕ)) (old new : Seen) (added : List Entry) → new.history ≡ old.history ++ added → new.opening ≡ old.opening → Appends kept full (lines_for added)
-    → IsLogOfBook kept old → IsLogOfBook full new
-log_grows kept full old new added history opening adds is =
-    let whole = lines_text (begun_lines Two (told_by old)) in
-    let grew : Appends (Some whole) full (lines_for added) = subst (λ (k : Option (List ℕ)). Appends k full (lines_for added)) is adds in
-    appended full whole (lines_for added) grew
-    ∙ ap (λ (l : List ℕ). Some l)
-    (sym (begun_grown (told_by old) added)
-    ∙ ap (λ (es : List Entry). let c : Content = record { clock = old.opening.clock; slots = old.opening.slots; entries = es } in lines_text (begun_lines Two c)) (sym history)
-    ∙ ap (λ (s : State). let c : Content = record { clock = s.clock; slots = s.slots; entries = new.history } in lines_text (begun_lines Two c)) (sym opening))
 
 -- so the file stays the log of the book
 pub log_delivered : (deliver : Bool) (asker : Asker) (begun kept full synced : Option (List ℕ)) (old new : Seen) (had has : Option (List ℕ))

@@ -1,5 +1,5 @@
 -- A log of version 1 that was made one of version 2.
-use Rattle.std.proofs.Common.{◌≡◌, inl, inr, ℕ, false, List, [], ◌∷◌, ◌++◌, map, length, take, refl, sym, ap, ◌∙◌, subst, Option, None, Some}
+use Rattle.std.proofs.Common.{◌≡◌, inl, inr, ℕ, Bool, false, List, [], ◌∷◌, ◌++◌, map, length, take, refl, sym, ap, ◌∙◌, subst, Option, None, Some}
 use Rattle.std.specs.Prelude.{OnErr, Result, Ok, Err}
 use Rattle.std.proofs.lemmas.List.{append-nil}
 use Rattle.wh_words.specs.Lines.{text_of as lines_text}
@@ -12,10 +12,14 @@ use Rattle.wh_points.specs.Points.{Site}
 use Rattle.wh_resume.specs.Drafts.{Seen}
 use Rattle.wh_journal.specs.Cutting.{front_of, MayCut, MayPut}
 use Rattle.wh_continue.specs.declared.running.KeepFault.{KeepFault}
-use Rattle.wh_continue.specs.Starting.{GoesOnFrom, StartsIn}
+use Rattle.wh_front.specs.Fronts.{front_text}
+use Rattle.wh_resume.specs.Behind.{GoesOnBehind}
+use Rattle.wh_resume.specs.declared.recovery.Preface.{Preface}
+use Rattle.wh_journal.specs.Journals.{lines_for}
+use Rattle.wh_continue.specs.Starting.{GoesOnFrom, GoesOnIn}
 use Rattle.wh_continue.specs.Renewing.{CutOnesAreTwos, IsHalfRenewed, LeavesHalfRenewed, OnesAreTwos, in_two, told_in_two}
 use Rattle.wh_continue.specs.Running.{IsLeftAt, LeftGoesOn}
-use Rattle.wh_continue.proofs.Closing.{cut_whole, fits_two, holds_in_two, head_changed}
+use Rattle.wh_continue.proofs.Closing.{cut_behind, cut_whole, fits_two, goes_at, holds_in_two, head_changed}
 
 pub ones_are_twos : OnesAreTwos
 ones_are_twos content fits = (fits_two content fits, whole (start_line content.clock content.slots ∷ (map entry_line content.entries ++ end_line (length content.entries) ∷ [])))
@@ -79,9 +83,32 @@ half_on site version text left bytes book from (inr (inl same)) = (Two, subst (�
 half_on site version text left bytes book from (inr (inr same)) =
     (Two, subst (λ (t : List ℕ). GoesOnFrom site Two t bytes book) (sym same) (cut_on site Two (in_two version text) bytes book (renewed_on site version text bytes book from)))
 
+-- of a log that begins with a front only what stands behind its whole lines may be gone
+behind_on : (site : Site) (text : List ℕ) (bytes : ℕ) (is_ended : Bool) (preface : Preface) (book : Seen) → GoesOnBehind site text bytes is_ended preface book → GoesOnBehind site (take bytes text) bytes false preface book
+behind_on site text bytes is_ended preface book g = record {
+  front = g.front;
+  is_front = g.is_front;
+  fits = g.fits;
+  rest = [];
+  text_is = cut_behind site text bytes is_ended preface book g ∙ sym (append-nil (front_text g.front ++ lines_for book.history));
+  rest_is = tt;
+  bytes_are = g.bytes_are;
+  preface_is = g.preface_is;
+  site_is = g.site_is;
+  opening_is = g.opening_is;
+}
+
+half_in : (site : Site) (preface : Option Preface) (version : Version) (text left : List ℕ) (bytes : ℕ) (book : Seen) → GoesOnIn site preface version text bytes book → IsHalfRenewed version bytes text left
+    → (v : Version) × GoesOnIn site preface v left bytes book
+half_in site None version text left bytes book g half = half_on site version text left bytes book g half
+half_in site (Some preface) version text left bytes book (two, (is_ended, g)) half = (Two, two_on (subst (λ (v : Version). IsHalfRenewed v bytes text left) two half))
+  where
+    two_on : IsHalfRenewed Two bytes text left → GoesOnIn site (Some preface) Two left bytes book
+    two_on (inl same) = subst (λ (t : List ℕ). GoesOnIn site (Some preface) Two t bytes book) (sym same) (refl, (is_ended, g))
+    two_on (inr (inl same)) = subst (λ (t : List ℕ). GoesOnIn site (Some preface) Two t bytes book) (sym same) (refl, (is_ended, g))
+    two_on (inr (inr same)) = subst (λ (t : List ℕ). GoesOnIn site (Some preface) Two t bytes book) (sym same) (refl, (false, behind_on site text bytes is_ended preface book g))
+
 pub left_goes_on : LeftGoesOn
 left_goes_on site slots text left start bytes is starts l =
-    let from : GoesOnFrom site start.version text bytes start.book =
-    subst (λ (b : Option ℕ). StartsIn site slots text (record { book = start.book; bytes = b; version = start.version })) is starts in
-    half_on site start.version text left bytes start.book from
-    (subst (λ (b : Option ℕ). IsLeftAt (record { book = start.book; bytes = b; version = start.version }) text left) is l)
+    half_in site start.preface start.version text left bytes start.book (goes_at site slots text start.preface start.version start.book start.bytes bytes is starts.at)
+    (subst (λ (b : Option ℕ). IsLeftAt (record { book = start.book; bytes = b; version = start.version; preface = start.preface; before = start.before }) text left) is l)

@@ -6,6 +6,7 @@ ghost use Rattle.wh_continue.specs.Besides.{StandsBeside};
 ghost use Rattle.wh_continue.specs.Opening.{IsOpened, IsWhyNotBoth};
 ghost use Rattle.wh_continue.specs.Running.{BeginsShort, IsStartOf, Opens};
 
+use crate::before::EntriesBefore;
 use crate::beside::{Beside, keep_beside};
 use crate::running::{KeepFault, write_opening};
 use crate::starting::Start;
@@ -25,12 +26,15 @@ fn open_log<L: LogFile>(alloc: Global, file: &mut L, start: Start) -> Result<Sta
     if start.bytes.is_some() {
         return Ok(start);
     }
-    let Start { book, .. } = start;
+    let Start { book, preface, .. } = start;
+    drop(preface);
     match write_opening(alloc, file, &book) {
         Ok(bytes) => Ok(Start {
             book,
             bytes: Some(bytes),
             version: Version::Two,
+            preface: None,
+            before: EntriesBefore::none(),
         }),
         Err(fault) => {
             drop(book);

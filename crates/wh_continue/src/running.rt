@@ -1,7 +1,7 @@
 //! A run over its log file, from what the file holds to the line that ends it.
 #![tactic(auto)]
 
-ghost use Rattle.std.specs.Prelude.{◌≡◌, ◌++◌, true, None, IfOk, IfErr, OnOk, OnErr, drop, length};
+ghost use Rattle.std.specs.Prelude.{◌≡◌, ◌++◌, ◌-◌, true, None, IfOk, IfErr, OnOk, OnErr, drop, length};
 ghost use Rattle.std.specs.Io.KnownBytes.{Appends, Keeps};
 ghost use Rattle.wh_core.specs.Laws.{IsBeginningOnTheirWays};
 ghost use Rattle.wh_core.specs.Steps.{Run};
@@ -9,7 +9,7 @@ ghost use Rattle.wh_journal.specs.Surviving.{HoldsLog, StaysLog};
 ghost use Rattle.wh_journal.specs.Scripts.{WritesFront};
 ghost use Rattle.wh_journal.specs.Cutting.{MayCut, MayPut, front_of};
 ghost use Rattle.wh_continue.specs.Renewing.{LeavesHalfRenewed, told_in_two};
-ghost use Rattle.wh_continue.specs.Running.{BeginsShort, EndsShort, IsStartOf, LeavesFront, Opens, OpensShort, RunsOn, StopsRun, closing, count_line, opening_lines, told_again};
+ghost use Rattle.wh_continue.specs.Running.{BeginsShort, EndsShort, IsBegunFrom, IsStartOf, LeavesFront, Opens, OpensShort, RunsOn, StopsRun, closing, count_line, opening_lines, told_again};
 ghost use Rattle.wh_journal.specs.Journals.{log_asker};
 
 use crate::continuing::{ContinueFault, continue_run};
@@ -24,7 +24,7 @@ use wh_journal::{Journal, LogFile, Warehouse};
 use wh_lines::{Lines, write_all};
 use wh_log::{Form, NoMemory, Version, begun_text, end_text, entries_text};
 use wh_planner::Planner;
-use wh_resume::Book;
+use wh_resume::{Book, Preface};
 
 /// Why a log file was not begun, or not ended.
 #[derive(Clone, Copy, Debug, PartialEq, Eq)]
@@ -149,12 +149,13 @@ pub(crate) fn write_opening<L: LogFile>(
     }
 }
 
-/// Makes the file the log of the run so far, of version 2, except for the end line: a log of version 1 is made one of version 2,
-/// then what was cut is taken away; where no run was begun the first two lines are written.
+/// Makes the file the log of the run so far, except for the end line: a log of version 1 is made one of version 2, then what was cut
+/// is taken away; a front stays as it is; where no run was begun the first two lines are written.
 pub fn begin_log<L: LogFile>(alloc: Global, file: &mut L, start: &Start) -> Result<(), KeepFault>
     requires starts { IsStartOf (L.contents file.old) start.now }
     ensures stays { OnOk result (StaysLog (L.contents file.old) (L.contents file.new) start.now.book) }
     ensures holds { OnOk result (HoldsLog (L.contents file.new) start.now.book) }
+    ensures begun { OnOk result (IsBegunFrom start.now (L.contents file.old) (L.contents file.new)) }
     ensures synced { OnOk result (L.synced file.new ≡ L.contents file.new) }
     ensures fault { IfErr result (λ fault. BeginsShort fault start.now (L.contents file.old) (L.contents file.new) (L.failed file.new)) }
 {
@@ -206,11 +207,11 @@ fn count_text(entries: u64) -> ArrayVec<u8, 64>
     line
 }
 
-/// The entries from this one on; none where there are no more than that many.
-fn behind(history: &[Entry], first: u32) -> &[Entry]
-    ensures { result.now ≡ drop first history.now }
+/// The entries from this one on, where so many came before them; none where there are no more than that many.
+fn behind(history: &[Entry], before: u64, first: u32) -> &[Entry]
+    ensures { result.now ≡ drop (first - before) history.now }
 {
-    let place = first as usize;
+    let place = u64::from(first).saturating_sub(before) as usize;
     if place < history.len() {
         &history[place..]
     } else {
@@ -218,12 +219,15 @@ fn behind(history: &[Entry], first: u32) -> &[Entry]
     }
 }
 
-/// The lines of the entries from this one on, where one is named.
-pub fn again_text(alloc: Global, history: &[Entry], again: Option<u32>) -> Result<Vec<u8>, NoMemory>
-    ensures { IfOk result (λ text. text.items ≡ told_again again history.now) }
+/// The lines of a run's entries from this one on, where one is named, as its log has them: none of those that came in logs before.
+pub fn again_text(alloc: Global, start: &Start, again: Option<u32>) -> Result<Vec<u8>, NoMemory>
+    ensures { IfOk result (λ text. text.items ≡ told_again again start.now) }
 {
     match again {
-        Some(first) => entries_text(alloc, behind(history, first)),
+        Some(first) => entries_text(
+            alloc,
+            behind(start.book.history(), start.entries_before(), first),
+        ),
         None => Ok(Vec::new(alloc)),
     }
 }
@@ -258,10 +262,10 @@ pub fn tell_first<W: Write>(writer: &mut W, entries: u64, text: &[u8]) -> Result
 }
 
 /// Goes on from a start over the log file in which it was found, and serves the script that is left in the reader, to the
-/// reader's end. First the file is made the log of the run so far, and the line `entries N` tells how many entries that has.
-/// Where an entry is named, those from it on are told again after that line, as the log has them. Then the script is served
+/// reader's end. First the file is made the log of the run so far, and the line `entries N` tells how many entries the run has, in
+/// all its logs. Where an entry is named, those from it on are told again after that line, as the log has them. Then the script is served
 /// as `continue_run` does; at its end all is delivered that can be, where that is asked for, and the file is given what ends the
-/// log, so that it is the log of the whole run.
+/// log, so that it is the log of the whole run. What the front of the log told, if it has one, comes back with the warehouse.
 pub fn run_on<R: Read, W: Write, L: LogFile, P: Planner>(
     lines: &mut Lines<R>,
     alloc: Global,
@@ -273,36 +277,41 @@ pub fn run_on<R: Read, W: Write, L: LogFile, P: Planner>(
     start: Start,
     planners: Vec<P>,
     spares: &mut Vec<P>,
-) -> Result<Warehouse<P>, RunFault>
+) -> Result<(Warehouse<P>, Option<Preface>), RunFault>
     requires starts { IsStartOf (L.contents file.old) start }
-    ensures runs { IfOk result (λ w. RunsOn P.fits_map P.slot_count (log_asker form) again deliver lines.old lines.new start.book spares.old.items w.book spares.new.items (W.contents writer.old) (W.contents writer.new) (L.contents file.old) (L.synced file.new) (L.contents file.new)) }
-    ensures opening { IfOk result (λ w. IsBeginningOnTheirWays w.book.site w.book.opening) }
-    ensures run { IfOk result (λ w. Run w.book.site w.book.opening w.book.history w.book.state) }
+    ensures runs { IfOk result (λ r. RunsOn P.fits_map P.slot_count (log_asker form) again deliver lines.old lines.new start spares.old.items r.0.book spares.new.items (W.contents writer.old) (W.contents writer.new) (L.contents file.old) (L.synced file.new) (L.contents file.new)) }
+    ensures opening { IfOk result (λ r. IsBeginningOnTheirWays r.0.book.site r.0.book.opening) }
+    ensures run { IfOk result (λ r. Run r.0.book.site r.0.book.opening r.0.book.history r.0.book.state) }
+    ensures preface { IfOk result (λ r. r.1 ≡ start.preface) }
     ensures fault { IfErr result (λ fault. StopsRun P.fits_map P.slot_count (log_asker form) again deliver fault lines.old lines.new start planners.items spares.old.items spares.new.items (W.contents writer.old) (W.contents writer.new) (L.contents file.old) (L.failed file.new) (L.synced file.new) (L.contents file.new)) }
 {
-    let Ok(text) = again_text(alloc, start.book.history(), again) else {
+    let Ok(text) = again_text(alloc, &start, again) else {
         return Err(RunFault::Begin(KeepFault::NoMemory));
     };
     match begin_log(alloc, file, &start) {
         Ok(()) => {}
         Err(fault) => return Err(RunFault::Begin(fault)),
     }
-    match tell_first(writer, start.book.history().len() as u64, text.as_slice()) {
+    match tell_first(writer, start.entries(), text.as_slice()) {
         Ok(()) => {}
         Err(fault) => return Err(fault),
     }
     drop(text);
-    let Start { book, .. } = start;
+    let Start { book, preface, .. } = start;
     let mut warehouse = match continue_run(
         lines, alloc, form, file, writer, book, planners, spares,
     ) {
         Ok(warehouse) => warehouse,
-        Err(fault) => return Err(RunFault::Continue(fault)),
+        Err(fault) => {
+            drop(preface);
+            return Err(RunFault::Continue(fault));
+        }
     };
     match deliver_over(deliver, alloc, form, file, writer, &mut warehouse) {
         Ok(()) => {}
         Err(fault) => {
             drop(warehouse);
+            drop(preface);
             return Err(RunFault::Deliver(fault));
         }
     }
@@ -312,7 +321,11 @@ pub fn run_on<R: Read, W: Write, L: LogFile, P: Planner>(
         warehouse.closed(),
         warehouse.history().len() as u64,
     ) {
-        Ok(()) => Ok(warehouse),
-        Err(fault) => Err(RunFault::End(fault)),
+        Ok(()) => Ok((warehouse, preface)),
+        Err(fault) => {
+            drop(warehouse);
+            drop(preface);
+            Err(RunFault::End(fault))
+        }
     }
 }

@@ -1,18 +1,21 @@
 //! Where a run starts: at the beginning, or where its log file leaves it.
 #![tactic(auto)]
 
-ghost use Rattle.std.specs.Prelude.{◌≡◌, ◌≤◌, IfOk, IfErr, length, All};
+ghost use Rattle.std.specs.Prelude.{◌≡◌, ◌≤◌, ◌<◌, ◌+◌, ◌^◌, [], ℕ, None, IfOk, IfErr, IfSome, IfNone, length, All};
 ghost use Rattle.std.specs.List.{AllByRecursion};
 ghost use Rattle.wh_log.specs.Logs.{IsSlots};
 ghost use Rattle.wh_resume.specs.Resuming.{TellsFrom};
 ghost use Rattle.wh_continue.specs.declared.starting.StartFault.TheVariants as fault;
-ghost use Rattle.wh_continue.specs.Starting.{StartsByFile, IsWhyNoStart, IsUnbegun, TellsOther};
+ghost use Rattle.wh_continue.specs.Starting.{AllOwn, IsFirstOther, StartsByFile, IsWhyNoStart, IsWhyNotOn, IsUnbegun, before_of, counts_line, entries_so_far};
 
+use crate::before::EntriesBefore;
 use crate::own::first_other;
 use std::alloc::{AllocError, Global};
+use wh_event::Entry;
 use wh_journal::LogFile;
 use wh_log::{NoMemory, SourceFault, Version, begun_text};
-use wh_resume::{Book, Recovery, Resumed, Setting, recover};
+use wh_restore::Reason;
+use wh_resume::{Book, Preface, Recovery, Resumed, Setting, recover};
 
 /// What a run starts from.
 #[derive(Drop)]
@@ -21,8 +24,29 @@ pub struct Start {
     pub book: Book,
     /// How many bytes of the file tell it; none where it was not begun.
     pub bytes: Option<usize>,
-    /// The version in which they tell it.
+    /// The version in which they tell it. Behind a front the lines are those of version 2.
     pub version: Version,
+    /// What the front tells beside the state; none where the log begins with two lines.
+    pub preface: Option<Preface>,
+    /// What came before the entries of the log.
+    pub before: EntriesBefore,
+}
+
+impl Start {
+    /// How many entries the run had before this log began.
+    pub fn entries_before(&self) -> u64
+        ensures value { result ≡ self.now.before.entries }
+        ensures few { result < 2 ^ 63 }
+    {
+        self.before.entries()
+    }
+
+    /// How many entries the run has so far, in all its logs.
+    pub fn entries(&self) -> u64
+        ensures { result ≡ entries_so_far self.now }
+    {
+        self.before.with(self.book.history().len())
+    }
 }
 
 /// Why no run starts.
@@ -30,6 +54,10 @@ pub struct Start {
 pub enum StartFault {
     /// L1: no log of a run of this site goes on with this line, from 1; the text is none that could be gone on from.
     Bad { line: u64 },
+    /// S1 to S11, and L1: the first line of the front with a flaw, from 1, and its first flaw.
+    Flawed { line: u64, reason: Reason },
+    /// L1: the line of the first agent of the front that is not on its way.
+    Stray { line: u64, agent: u32 },
     /// X5: the file cannot be read, is no file of bytes, or another has it.
     Unread,
     /// E90: out of memory.
@@ -58,33 +86,92 @@ fn begin(alloc: Global, setting: Setting, slots: Vec<u32>) -> Result<Start, Allo
     ensures book { IfOk result (λ start. IsUnbegun setting slots.items start.book) }
     ensures state { IfOk result (λ start. start.book.state.slots ≡ slots.items) }
     ensures bytes { IfOk result (λ start. start.bytes ≡ None) }
+    ensures preface { IfOk result (λ start. start.preface ≡ None) }
+    ensures before { IfOk result (λ start. start.before ≡ before_of None) }
 {
     let book = Book::open(alloc, setting, 0, slots)?;
     Ok(Start {
         book,
         bytes: None,
         version: Version::Two,
+        preface: None,
+        before: EntriesBefore::none(),
     })
+}
+
+/// The line of a front that tells how many entries each caller had before.
+fn counts_line(preface: &Preface) -> u64
+    ensures { result ≡ counts_line preface.now }
+{
+    if preface.head.rules.are_told() { 5 } else { 4 }
+}
+
+/// What came before the entries of a log.
+fn before_entries(preface: &Option<Preface>) -> Result<EntriesBefore, StartFault>
+    requires few { IfSome preface.now (λ p. p.lines < 2 ^ 32) }
+    ensures ok { IfOk result (λ before. before ≡ before_of preface.now) }
+    ensures fault { IfErr result (IsWhyNotOn preface.now []) }
+{
+    let Some(preface) = preface else {
+        return Ok(EntriesBefore::none());
+    };
+    match EntriesBefore::told(preface) {
+        Some(before) => Ok(before),
+        None => Err(StartFault::Bad {
+            line: counts_line(preface),
+        }),
+    }
+}
+
+/// The line of the first entry that tells of a planner with another number of slots.
+fn other_line(before: &EntriesBefore, history: &[Entry]) -> Option<u64>
+    ensures none { IfNone result (AllOwn history.now) }
+    ensures first { IfSome result (λ line. (place : ℕ) × IsFirstOther history.now place × (line ≡ before.now.lines + (place + 1))) }
+{
+    match first_other(history) {
+        Some(place) => Some(before.line_of(place)),
+        None => None,
+    }
 }
 
 /// What a run starts from that goes on.
 fn go_on(resumed: Resumed) -> Result<Start, StartFault>
     requires slots { AllByRecursion IsSlots resumed.book.opening.slots }
+    requires few { IfSome resumed.preface (λ p. p.lines < 2 ^ 32) }
     ensures book { IfOk result (λ start. start.book ≡ resumed.book) }
     ensures bytes { IfOk result (λ start. start.bytes ≡ Some resumed.bytes) }
     ensures version { IfOk result (λ start. start.version ≡ resumed.version) }
+    ensures preface { IfOk result (λ start. start.preface ≡ resumed.preface) }
+    ensures before { IfOk result (λ start. start.before ≡ before_of resumed.preface) }
+    ensures few { IfOk result (λ start. start.before.entries < 2 ^ 63) }
     ensures slots { IfOk result (λ start. All IsSlots start.book.state.slots) }
-    ensures fault { IfErr result (TellsOther resumed.book.history) }
+    ensures fault { IfErr result (IsWhyNotOn resumed.preface resumed.book.history) }
 {
-    if let Some(place) = first_other(resumed.book.history()) {
-        return Err(StartFault::Bad {
-            line: place as u64 + 3,
-        });
+    let before = match before_entries(&resumed.preface) {
+        Ok(before) => before,
+        Err(fault) => {
+            drop(resumed);
+            return Err(fault);
+        }
+    };
+    if let Some(line) = other_line(&before, resumed.book.history()) {
+        drop(resumed);
+        return Err(StartFault::Bad { line });
     }
+    let _entries = before.entries();
+    let Resumed {
+        version,
+        book,
+        bytes,
+        preface,
+        ..
+    } = resumed;
     Ok(Start {
-        book: resumed.book,
-        bytes: Some(resumed.bytes),
-        version: resumed.version,
+        book,
+        bytes: Some(bytes),
+        version,
+        preface,
+        before,
     })
 }
 
@@ -103,12 +190,13 @@ fn recover_file<L: LogFile>(
 }
 
 /// Finds out what a run of the site starts from, by what its log file holds, where each planner is to have these slots, 2 to
-/// 64, at an opening. A log of either version is resumed. A file in which fewer than two lines stand whole is taken for a
+/// 64, at an opening. A log of any version is resumed: one of version 3 from the state of its front. A file in which fewer than two lines stand whole is taken for a
 /// run that was not begun only where it holds a beginning of the two lines that this very run would write first: no other is.
 /// The file is read piece by piece, and not changed: memory is taken for the run and for a line or two.
 ///
 /// Errors: `Bad` with the first line with which no log of a run of this site goes on, or with the line of an entry that tells
-/// of a planner with more slots or fewer; `Unread`; `NoMemory`.
+/// of a planner with more slots or fewer, or of counts that make 2^63 or more; `Flawed` and `Stray` with a line of the front;
+/// `Unread`; `NoMemory`.
 pub fn find_start<L: LogFile>(
     alloc: Global,
     setting: Setting,
@@ -132,6 +220,8 @@ pub fn find_start<L: LogFile>(
     match found {
         Recovery::Unopened(setting) => Ok(begin(alloc, setting, slots)?),
         Recovery::Bad { line, .. } => Err(StartFault::Bad { line }),
+        Recovery::Flawed { line, reason } => Err(StartFault::Flawed { line, reason }),
+        Recovery::Stray { line, agent } => Err(StartFault::Stray { line, agent }),
         Recovery::Resumed(resumed) => go_on(resumed),
     }
 }

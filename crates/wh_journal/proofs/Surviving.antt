@@ -1,5 +1,5 @@
 -- What is found in what a kill leaves of a journal.
-use Rattle.std.proofs.Common.{◌≡◌, ◌≤◌, ◌+◌, ◌<◌, ℕ, inl, inr, List, [], ◌∷◌, ◌++◌, map, length, drop, take, refl, sym, ap, ◌∙◌, subst, arith, append_assoc, Some, length-append, take-append-drop}
+use Rattle.std.proofs.Common.{◌≡◌, ◌≤◌, ◌+◌, ◌<◌, ℕ, Bool, true, false, inl, inr, List, [], ◌∷◌, ◌++◌, map, length, drop, take, refl, sym, ap, ◌∙◌, subst, arith, append_assoc, Some, length-append, take-append-drop}
 use Rattle.std.proofs.lemmas.Bool.{cases_lt}
 use Rattle.std.proofs.lemmas.List.{map-append}
 use Rattle.wh_words.specs.Lines.{text_of as lines_text}
@@ -9,13 +9,17 @@ use Rattle.wh_log.specs.Spelling.{entry_line}
 use Rattle.wh_log.specs.declared.version.Version.{Version}
 use Rattle.wh_log.specs.declared.version.Version.TheVariants.{Two}
 use Rattle.wh_log.specs.Logs.{Content}
-use Rattle.wh_log.specs.Torn.{begun_lines, IsRest}
+use Rattle.wh_log.specs.Torn.{begun_lines, Holds, IsRest}
 use Rattle.wh_log.proofs.LineLaws.{not_whole, text_cons}
 use Rattle.wh_log.proofs.Fronts.{text-append}
 use Rattle.wh_log.proofs.Tearing.{cuts_are_found}
 use Rattle.wh_journal.specs.Journals.{lines_for}
 use Rattle.wh_replay.specs.Scripts.{WritesFront}
-use Rattle.wh_journal.specs.Surviving.{grown, IsLeft, AddedAreFound}
+use Rattle.wh_log.specs.Logs.{Fits}
+use Rattle.wh_front.specs.declared.front.Front.{Front}
+use Rattle.wh_front.specs.Fronts.{Fits as FitsFront, front_text}
+use Rattle.wh_front.proofs.Readings.{one_front}
+use Rattle.wh_journal.specs.Surviving.{grown, IsLeft, AddedAreFound, AddedAreFoundBehind, HoldsBehind}
 
 -- the text of a begun log with further entries
 pub begun_grown : (content : Content) (more : List Entry) → lines_text (begun_lines Two (grown content more)) ≡ lines_text (begun_lines Two content) ++ lines_for more
@@ -121,3 +125,83 @@ added_are_found content found added later kept holds left other is_ended bytes f
           same_entries sure.entries later (g.more ++ f.0) (f.4 ∙ ap (λ (es : List Entry). es ++ f.0) g.long_is ∙ append_assoc sure.entries g.more f.0) in
           (g.more, f.0, f.2, f.3, g.long_is, behind_is, f.1, f.5)
     ]
+
+-- ---- behind a front: two lines in its place
+
+module _ (front : Front) (content : Content) (added later : List Entry) (kept holds left : List ℕ) (kept_is : kept ≡ (front_text front ++ lines_for content.entries) ++ lines_for added)
+    (behind : WritesFront (Some kept) (Some holds) (lines_for later)) (is_left : IsLeft kept holds left) where
+  abbrev head : List ℕ
+  head = front_text front
+
+  abbrev two : List ℕ
+  two = lines_text (begun_lines Two (let c : Content = record { clock = content.clock; slots = content.slots; entries = [] } in c))
+
+  abbrev sure : List ℕ
+  sure = lines_for content.entries ++ lines_for added
+
+  abbrev written : List ℕ
+  written = take behind.count (lines_for later)
+
+  kept_parts : kept ≡ head ++ sure
+  kept_parts = kept_is ∙ append_assoc head (lines_for content.entries) (lines_for added)
+
+  holds_parts : head ++ (sure ++ written) ≡ left ++ is_left.lost
+  holds_parts = sym (append_assoc head sure written) ∙ ap (λ (t : List ℕ). t ++ written) (sym kept_parts) ∙ sym behind.appends ∙ is_left.parts
+
+  -- the front is left whole
+  pub head_left : Longer head left
+  head_left = front_longer head (sure ++ written) left is_left.lost holds_parts (omega (arith, ap length kept_parts, length-append head sure, is_left.no_less))
+
+  behind_head : sure ++ written ≡ head_left.more ++ is_left.lost
+  behind_head = same_behind head (sure ++ written) (head_left.more ++ is_left.lost) (holds_parts ∙ ap (λ (t : List ℕ). t ++ is_left.lost) head_left.long_is ∙ append_assoc head head_left.more is_left.lost)
+
+  -- the same with the two lines
+  abbrev pub kept_two : List ℕ
+  kept_two = lines_text (begun_lines Two content) ++ lines_for added
+
+  two_parts : kept_two ≡ two ++ sure
+  two_parts =
+      ap (λ (t : List ℕ). t ++ lines_for added) (begun_grown (let c : Content = record { clock = content.clock; slots = content.slots; entries = [] } in c) content.entries)
+      ∙ append_assoc two (lines_for content.entries) (lines_for added)
+
+  pub behind_two : WritesFront (Some kept_two) (Some (kept_two ++ written)) (lines_for later)
+  behind_two = record { count = behind.count; appends = refl }
+
+  pub left_two : IsLeft kept_two (kept_two ++ written) (two ++ head_left.more)
+  left_two = record {
+    lost = is_left.lost;
+    parts = ap (λ (t : List ℕ). t ++ written) two_parts ∙ append_assoc two sure written ∙ ap (λ (t : List ℕ). two ++ t) behind_head ∙ sym (append_assoc two head_left.more is_left.lost);
+    no_less = omega (arith, ap length two_parts, length-append two sure, length-append two head_left.more, ap length kept_parts, length-append head sure, ap length head_left.long_is, length-append head head_left.more, is_left.no_less);
+  }
+
+  module _ (told : Front) (found : Content) (is_ended : Bool) (bytes : ℕ) (fits : FitsFront front) (others : FitsFront told) (whole : Fits Two (grown (grown content added) later)) (stands : HoldsBehind told found is_ended left bytes) where
+    -- one front stands there
+    one_head : (front ≡ told) × (head_left.more ≡ lines_for found.entries ++ stands.rest)
+    one_head = one_front front told head_left.more (lines_for found.entries ++ stands.rest) fits others
+        (sym head_left.long_is ∙ stands.text_is ∙ append_assoc (front_text told) (lines_for found.entries) stands.rest)
+
+    abbrev found_two : Content
+    found_two = record { clock = content.clock; slots = content.slots; entries = found.entries }
+
+    rest_two : (ended : Bool) → IsRest ended found stands.rest → IsRest ended found_two stands.rest
+    rest_two true r = r
+    rest_two false r = r
+
+    holds_two : Holds Two found_two is_ended (two ++ head_left.more) (length (lines_text (begun_lines Two found_two)))
+    holds_two = record {
+      fits = record { opens = whole.opens; entries = stands.fits.entries; count = stands.fits.count };
+      rest = stands.rest;
+      text_is = ap (λ (t : List ℕ). two ++ t) one_head.1 ∙ sym (append_assoc two (lines_for found.entries) stands.rest)
+          ∙ ap (λ (t : List ℕ). t ++ stands.rest) (sym (begun_grown (let c : Content = record { clock = content.clock; slots = content.slots; entries = [] } in c) found.entries));
+      rest_is = rest_two is_ended stands.rest_is;
+      bytes_are = refl;
+    }
+
+    pub found_behind : (more : List Entry) × (unfound : List Entry) × (told ≡ front) × (found.entries ≡ (content.entries ++ added) ++ more) × (later ≡ more ++ unfound) × (is_ended ≡ false)
+    found_behind =
+        let f = added_are_found content found_two added later kept_two (kept_two ++ written) (two ++ head_left.more) Two is_ended (length (lines_text (begun_lines Two found_two))) whole refl behind_two left_two holds_two in
+        (f.0, f.1, sym one_head.0, f.4, f.5, f.7)
+
+pub added_are_found_behind : AddedAreFoundBehind
+added_are_found_behind front told content found added later kept holds left is_ended bytes fits others whole kept_is behind is_left stands =
+    found_behind front content added later kept holds left kept_is behind is_left told found is_ended bytes fits others whole stands

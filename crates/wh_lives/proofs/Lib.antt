@@ -1,5 +1,6 @@
 mod Asked
 mod OneLog
+mod Kept
 mod Runs
 mod Finding
 mod Living

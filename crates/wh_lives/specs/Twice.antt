@@ -9,6 +9,8 @@ use Rattle.wh_log.specs.Logs.{IsSlots}
 use Rattle.wh_resume.specs.Drafts.{Seen}
 use Rattle.wh_replay.specs.declared.asker.Asker.{Asker}
 use Rattle.wh_journal.specs.Surviving.{IsLeft}
+use Rattle.wh_path.specs.Paths.{last_index}
+use Rattle.wh_continue.specs.declared.starting.Start.{Start}
 use Rattle.wh_continue.specs.declared.running.RunFault.{RunFault}
 use Rattle.wh_continue.specs.declared.running.RunFault.TheVariants.{Begin}
 use Rattle.wh_lives.specs.Lives.{Deeds, Finds, Lived}
@@ -42,12 +44,13 @@ has_lived (Err (Unstarted fault)) = false
 has_lived (Err (Unbegun fault)) = false
 has_lived (Err (Stopped fault)) = true
 
--- A log can tell the run: the map and the points are in its ranges, as all that are read; so are the slots of the planners; and there are fewer than
--- 1,000,000,000 entries.
-pub record CanBeTold {X : Type 0} (count : X → ℕ) (site : Site) (spares : List X) (final : Seen) : Type 0 where
+-- A log can tell the run: the map and the points are in its ranges, as all that are read; so are the slots of the planners; there are fewer than
+-- 1,000,000,000 entries; and where it began with the state of a front, that has paths of fewer than 2^63 steps.
+pub record CanBeTold {X : Type 0} (count : X → ℕ) (site : Site) (spares : List X) (start : Start) (final : Seen) : Type 0 where
   pub range : IsInRange site
   pub slots : AllByRecursion (λ planner. count planner < 10 ^ 9) spares
   pub few : length final.history < 10 ^ 9
+  pub paths : IfSome start.preface (λ _. All (λ path. last_index path < 2 ^ 63) start.book.opening.paths)
 
 -- A session over a log file that tells its bytes; then some kill, which left something of the file; then a session over that. What the second finds of the
 -- first is all that the first can have told.
@@ -63,4 +66,4 @@ pub record LivesTwice {X : Type 0} (fits : X → Floor → Bool) (count : X → 
   pub safe : Option (List ℕ)
   pub stands : Option (List ℕ)
   pub lived_on : Lived fits count asker site next_slots next_spares second next_before next_after next_had next_has left safe stands late
-  pub finds : is_some file ≡ true → has_lived first ≡ true → CanBeTold count site spares early.final → Finds site left early second late
+  pub finds : is_some file ≡ true → has_lived first ≡ true → CanBeTold count site spares early.start early.final → Finds site left early second late

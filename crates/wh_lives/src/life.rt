@@ -83,8 +83,9 @@ pub fn live<R: Read, W: Write, L: LogFile, P: Planner>(
     );
     drop(spares);
     match ran {
-        Ok(warehouse) => {
+        Ok((warehouse, preface)) => {
             drop(warehouse);
+            drop(preface);
             Ok(())
         }
         Err(fault) => Err(ended(fault)),

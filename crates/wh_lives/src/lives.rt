@@ -9,7 +9,7 @@ use crate::dying::Dying;
 use crate::life::{Equipment, LifeFault, live};
 use std::alloc::Global;
 use std::io::{Read, Write};
-use wh_continue::{LogFile, told_survives};
+use wh_continue::{LogFile, told_survives, told_survives_behind};
 use wh_lines::Lines;
 use wh_log::Form;
 use wh_planner::Planner;
@@ -52,6 +52,7 @@ pub fn two_lives<
         lines.old lines.new (W.contents writer.old) (W.contents writer.new) next_lines.old next_lines.new (W.contents next_writer.old) (W.contents next_writer.new) result.first result.second }
 {
     told_survives();
+    told_survives_behind();
     let mut dying = Dying::new(file, calls);
     let early = live(alloc, form, first, &mut dying, lines, writer);
     let mut left = kill(dying);

@@ -1,8 +1,8 @@
 -- What was read is what the log file tells as a journal.
-use Rattle.std.proofs.Common.{ℕ, List, Option, length, sym, subst, ◌∙◌}
+use Rattle.std.proofs.Common.{ℕ, List, Option, length, subst}
 use Rattle.wh_resume.specs.Resuming.{IsFront}
 use Rattle.wh_continue.specs.Besides.{HoldsWithin}
-use Rattle.wh_continue.proofs.Fronts.{holds_other, stands, why_unread}
+use Rattle.wh_continue.proofs.Fronts.{holds_other}
 use Rattle.wh_continue.proofs.beside.look_beside.Goals as goal
 
 pub returns-clause-fault : goal.returns-clause-fault

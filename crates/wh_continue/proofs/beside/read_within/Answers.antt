@@ -1,5 +1,5 @@
 -- What was read is a front of what the file holds, and all of it where it ended.
-use Rattle.std.proofs.Common.{rules, refl, sym, subst, inl, inr, arith}
+use Rattle.std.proofs.Common.{rules, refl, sym, subst, inl, inr}
 use Rattle.std.specs.Prelude.{IfSome}
 use Rattle.wh_resume.specs.Resuming.{IsFront}
 use Rattle.wh_continue.proofs.Fronts.{front_none, reads_on, reads_within}

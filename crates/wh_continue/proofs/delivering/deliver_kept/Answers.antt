@@ -1,6 +1,5 @@
 use Rattle.std.proofs.lemmas.Result.{on_ok_weaker, IfErr-weaker}
 use Rattle.wh_journal.specs.Journals.{lines_for}
-use Rattle.wh_journal.specs.Keeping.{Held}
 use Rattle.wh_continue.proofs.Delivered.{either_way, named_short, stands_short}
 use Rattle.wh_continue.proofs.delivering.deliver_kept.Goals as goal
 

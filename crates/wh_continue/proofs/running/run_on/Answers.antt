@@ -1,4 +1,4 @@
-use Rattle.std.proofs.Common.{◌≡◌, ◌∙◌, ℕ, Bool, List, ◌++◌, length, ap, ap₂, subst}
+use Rattle.std.proofs.Common.{◌≡◌, ◌∙◌, ℕ, Bool, List, ◌++◌, length, ap₂, subst}
 use Rattle.std.specs.Io.KnownBytes.{Appends}
 use Rattle.wh_event.specs.declared.entry.Entry.{Entry}
 use Rattle.wh_continue.specs.Running.{EndsShort, closing, count_line, first_text, told_again}
@@ -17,19 +17,19 @@ returns-in-Ok-end_log-clause-runs g c =
     let holds = g.L.Journal.contents c.end_log.new.journal in
     let served = c.in-Ok-continue_run.warehouse.book in
     let new = c.deliver_over.new.warehouse.book in
-    let ending : closing c.closed.result (length c.history-3.result.now) ≡ closing new.state.closed (length new.history) =
-    ap₂ (λ (closed : Bool) (entries : List Entry). closing closed (length entries)) c.closed.ensures c.history-3.ensures.value in
+    let ending : closing c.closed.result (length c.history.result.now) ≡ closing new.state.closed (length new.history) =
+    ap₂ (λ (closed : Bool) (entries : List Entry). closing closed (length entries)) c.closed.ensures c.history.ensures.value in
     let ends : Appends full holds (closing new.state.closed (length new.history)) = subst (λ (lines : List ℕ). Appends full holds lines) ending c.in-Ok-end_log.ensures.ok in
-    let lines : c.as_slice.result.now ≡ told_again c.args.again c.args.start.book.history =
-    c.as_slice.ensures.value ∙ c.in-Ok.ensures ∙ ap (told_again c.args.again) c.history.ensures.value in
-    let text : count_line (length c.history-2.result.now) ++ c.as_slice.result.now ≡ first_text c.args.again c.args.start.book.history =
-    ap₂ (λ (entries : List Entry) (told : List ℕ). count_line (length entries) ++ told) c.history-2.ensures.value lines in
+    let lines : c.as_slice.result.now ≡ told_again c.args.again c.args.start = c.as_slice.ensures.value ∙ c.in-Ok.ensures in
+    let text : count_line c.entries.result ++ c.as_slice.result.now ≡ first_text c.args.again c.args.start =
+    ap₂ (λ (entries : ℕ) (told : List ℕ). count_line entries ++ told) c.entries.ensures lines in
     record {
       counted = counted;
       begun = begun;
       counts = record {
         counts = subst (λ (bytes : List ℕ). Appends had counted bytes) text c.in-Ok-tell_first.ensures.ok;
         begins = c.in-Ok-begin_log.ensures.stays;
+        begun_is = c.in-Ok-begin_log.ensures.begun;
       };
       safe = g.L.Journal.synced c.continue_run.new.journal;
       kept = kept;
@@ -52,10 +52,9 @@ pub returns-in-Err-deliver_over-clause-fault : goal.returns-in-Err-deliver_over-
 returns-in-Err-deliver_over-clause-fault g c =
     let had = g.W.Write.contents c.args.writer.now in
     let counted = g.W.Write.contents c.tell_first.new.writer in
-    let lines : c.as_slice.result.now ≡ told_again c.args.again c.args.start.book.history =
-    c.as_slice.ensures.value ∙ c.in-Ok.ensures ∙ ap (told_again c.args.again) c.history.ensures.value in
-    let text : count_line (length c.history-2.result.now) ++ c.as_slice.result.now ≡ first_text c.args.again c.args.start.book.history =
-    ap₂ (λ (entries : List Entry) (told : List ℕ). count_line (length entries) ++ told) c.history-2.ensures.value lines in (
+    let lines : c.as_slice.result.now ≡ told_again c.args.again c.args.start = c.as_slice.ensures.value ∙ c.in-Ok.ensures in
+    let text : count_line c.entries.result ++ c.as_slice.result.now ≡ first_text c.args.again c.args.start =
+    ap₂ (λ (entries : ℕ) (told : List ℕ). count_line entries ++ told) c.entries.ensures lines in (
       c.in-Err-deliver_over.ensures.asked,
       (
         counted,
@@ -63,6 +62,7 @@ returns-in-Err-deliver_over-clause-fault g c =
         record {
           counts = subst (λ (bytes : List ℕ). Appends had counted bytes) text c.in-Ok-tell_first.ensures.ok;
           begins = c.in-Ok-begin_log.ensures.stays;
+          begun_is = c.in-Ok-begin_log.ensures.begun;
         },
         (
           c.in-Ok-continue_run.warehouse.book,
@@ -87,19 +87,19 @@ returns-in-Err-end_log-clause-fault g c =
     let ended = c.end_log.new.journal in
     let served = c.in-Ok-continue_run.warehouse.book in
     let new = c.deliver_over.new.warehouse.book in
-    let ending : closing c.closed.result (length c.history-3.result.now) ≡ closing new.state.closed (length new.history) =
-    ap₂ (λ (closed : Bool) (entries : List Entry). closing closed (length entries)) c.closed.ensures c.history-3.ensures.value in
+    let ending : closing c.closed.result (length c.history.result.now) ≡ closing new.state.closed (length new.history) =
+    ap₂ (λ (closed : Bool) (entries : List Entry). closing closed (length entries)) c.closed.ensures c.history.ensures.value in
     let short : EndsShort c.in-Err-end_log.fault (closing new.state.closed (length new.history)) full (g.L.Journal.contents ended) sure (g.L.Journal.synced ended) (g.L.Journal.failed ended) =
     subst (λ (lines : List ℕ). EndsShort c.in-Err-end_log.fault lines full (g.L.Journal.contents ended) sure (g.L.Journal.synced ended) (g.L.Journal.failed ended)) ending c.in-Err-end_log.ensures.fault in
-    let lines : c.as_slice.result.now ≡ told_again c.args.again c.args.start.book.history =
-    c.as_slice.ensures.value ∙ c.in-Ok.ensures ∙ ap (told_again c.args.again) c.history.ensures.value in
-    let text : count_line (length c.history-2.result.now) ++ c.as_slice.result.now ≡ first_text c.args.again c.args.start.book.history =
-    ap₂ (λ (entries : List Entry) (told : List ℕ). count_line (length entries) ++ told) c.history-2.ensures.value lines in (
+    let lines : c.as_slice.result.now ≡ told_again c.args.again c.args.start = c.as_slice.ensures.value ∙ c.in-Ok.ensures in
+    let text : count_line c.entries.result ++ c.as_slice.result.now ≡ first_text c.args.again c.args.start =
+    ap₂ (λ (entries : ℕ) (told : List ℕ). count_line entries ++ told) c.entries.ensures lines in (
       counted,
       begun,
       record {
         counts = subst (λ (bytes : List ℕ). Appends had counted bytes) text c.in-Ok-tell_first.ensures.ok;
         begins = c.in-Ok-begin_log.ensures.stays;
+        begun_is = c.in-Ok-begin_log.ensures.begun;
       },
       (served, g.W.Write.contents c.continue_run.new.writer, safe, kept, c.in-Ok-continue_run.ensures.replays, (new, sure, full, c.in-Ok-deliver_over.ensures.ok, short)),
     )
