@@ -1,10 +1,14 @@
 -- how many bytes of a text are whole lines, and where vehicles stand by them
-use Rattle.std.proofs.Common.{◌≡◌, Bool, true, false, Option, None, Some, cond, ℕ, ◌+◌, ◌-◌, ◌≤◌, ◌∙◌, inl, inr, List, [], ◌∷◌, ◌++◌, length, sym, refl, ap, arith, length-append}
-use Rattle.std.specs.Prelude.{IfNone, is_some}
+use Rattle.std.proofs.Common.{◌≡◌, ◌≢◌, Bool, Bor, true, false, Option, None, Some, cond, ℕ, ◌+◌, ◌-◌, ◌≤◌, ◌∙◌, inl, inr, List, [], ◌∷◌, ◌++◌, length, sym, refl, ap, subst, arith, length-append}
+use Rattle.std.specs.Prelude.{◌⊎◌, IfNone, IfSome, MatchOption, is_some}
 use Rattle.std.proofs.lemmas.List.{append_assoc}
 use Rattle.std.proofs.lemmas.List.Sums.{sum_by-append}
 use Rattle.wh_text.specs.Lines.{IsLine, is_line_feed}
-use Rattle.wh_convoy.specs.Standing.{EndsFeed, IsWhole, whole_lines}
+use Rattle.wh_words.specs.Lines.{text_of}
+use Rattle.wh_arrivals.specs.Arrivals.{IsFirstBad}
+use Rattle.wh_resume.specs.declared.recovery.Preface.{Preface}
+use Rattle.wh_convoy.specs.Beginning.{first_line}
+use Rattle.wh_convoy.specs.Standing.{EndsFeed, HasReports, IsWhole, LacksFirst, whole_lines}
 
 -- what stands before the rest of the text is whole lines
 pub record Passed (text rest : List ℕ) : Type 0 where
@@ -69,6 +73,31 @@ few_one text line rest is h k more =
     let none = no_line rest k in
     omega (arith, parts, none, more)
 
+-- a text with a line feed is not one line
+pub has_line : (text line rest : List ℕ) → text ≡ line ++ 10 ∷ rest → IsLine line → IsLine text → ⊥
+has_line text line rest is h t =
+    let parts : whole_lines text ≡ 1 + whole_lines rest = ap (λ t. whole_lines t) is ∙ line_more line rest h in
+    let none = no_line text t in
+    omega (arith, parts, none)
+
+-- as many bytes as lines at least
+lines_fit : (lines : List (List ℕ)) → length lines ≤ length (text_of lines)
+lines_fit [] = omega arith
+lines_fit (line ∷ lines) =
+    let rest = lines_fit lines in
+    let all : length (text_of (line ∷ lines)) ≡ length (line ++ 10 ∷ []) + length (text_of lines) = length-append (line ++ 10 ∷ []) (text_of lines) in
+    let one : length (line ++ 10 ∷ []) ≡ length line + 1 = length-append line (10 ∷ []) in
+    omega (arith, rest, all, one)
+
+pub bad_within : (agents : ℕ) (text : List ℕ) (number : ℕ) → IsFirstBad agents text number → number ≤ length text
+bad_within agents text number bad =
+    let before = lines_fit bad.before in
+    let all : length text ≡ length (text_of bad.before) + length (bad.line ++ 10 ∷ bad.rest) = ap (λ (t : List ℕ). length t) bad.text_is ∙ length-append (text_of bad.before) (bad.line ++ 10 ∷ bad.rest) in
+    let line : length (bad.line ++ 10 ∷ bad.rest) ≡ length bad.line + length (10 ∷ bad.rest) = length-append bad.line (10 ∷ bad.rest) in
+    let rest : length (10 ∷ bad.rest) ≡ 1 + length bad.rest = length-append (10 ∷ []) bad.rest in
+    let place = bad.place in
+    omega (arith, before, all, line, rest, place)
+
 pub many_two : (text line rest next more : List ℕ) → text ≡ line ++ 10 ∷ rest → rest ≡ next ++ 10 ∷ more → IsLine line → IsLine next → 2 ≤ whole_lines text
 many_two text line rest next more is then h k =
     let parts : whole_lines text ≡ 1 + whole_lines rest = ap (λ t. whole_lines t) is ∙ line_more line rest h in
@@ -78,3 +107,29 @@ many_two text line rest next more is then h k =
 pub none_of : {X : Type 0} (P : Type 0) (o : Option X) (b : Bool) → b ≡ is_some o → b ≡ false → IfNone o P → P
 none_of P None b is bad h = h
 none_of P (Some x) b is bad h = absurd (let e : true ≡ false = sym is ∙ bad in cc)
+
+-- what stands behind the first line of a text in which a line stands whole
+pub behind_some : (text first : List ℕ) (r : Option (Bor (List ℕ))) → MatchOption r ((rest : List ℕ) → text ≢ first ++ rest) (λ x. text ≡ first ++ x.now) →
+    IfSome r (λ rest. (text ≡ first ++ rest.now) ⊎ (IsLine text × (rest.now ≡ [])))
+behind_some text first None m = tt
+behind_some text first (Some x) m = inl m
+
+pub behind_none : (text first : List ℕ) (r : Option (Bor (List ℕ))) → (IsLine text → ⊥) → MatchOption r ((rest : List ℕ) → text ≢ first ++ rest) (λ x. text ≡ first ++ x.now) →
+    IfNone r ((IsLine text → ⊥) × ((rest : List ℕ) → text ≢ first ++ rest))
+behind_none text first None lines m = (lines, m)
+behind_none text first (Some x) lines m = tt
+
+-- and where a front is told, it is to tell of that
+pub lacks_first : (preface : Option Preface) (told : Preface) (text first : List ℕ) (r : Option (Bor (List ℕ))) → preface ≡ Some told → first ≡ first_line preface →
+    IfNone r ((IsLine text → ⊥) × ((rest : List ℕ) → text ≢ first ++ rest)) → IfNone r (LacksFirst preface text)
+lacks_first preface told text first None is e h =
+    let same : first ≡ first_line (Some told) = e ∙ ap (λ (p : Option Preface). first_line p) is in
+    subst (λ (p : Option Preface). LacksFirst p text) (sym is) (h.0, λ rest begins. h.1 rest (begins ∙ ap (λ (f : List ℕ). f ++ rest) (sym same)))
+lacks_first preface told text first (Some x) is e h = tt
+
+pub reports_fit : (preface : Option Preface) (text reports : List ℕ) → HasReports preface text reports → length reports ≤ length text
+reports_fit None text reports same = (let size : length reports ≡ length text = ap (λ (t : List ℕ). length t) same in omega (arith, size))
+reports_fit (Some told) text reports (inl parts) =
+    let size : length text ≡ length (first_line (Some told)) + length reports = ap (λ (t : List ℕ). length t) parts ∙ length-append (first_line (Some told)) reports in
+    omega (arith, size)
+reports_fit (Some told) text reports (inr none) = (let size : length reports ≡ 0 = ap (λ (t : List ℕ). length t) none.1 in omega (arith, size))

@@ -1,5 +1,5 @@
 -- lines that are served one after another are served together
-use Rattle.std.proofs.Common.{◌≡◌, ℕ, ◌∙◌, Bool, List, [], ◌∷◌, ◌++◌, sym, subst, refl, ap, append-nil, append_assoc}
+use Rattle.std.proofs.Common.{ℕ, ◌∙◌, Bool, List, [], ◌∷◌, ◌++◌, sym, subst, refl, ap, append-nil, append_assoc}
 use Rattle.wh_text.specs.Lines.{lines_of}
 use Rattle.wh_session.proofs.Following.{ends_both}
 use Rattle.wh_grid.specs.Grids.{Floor}

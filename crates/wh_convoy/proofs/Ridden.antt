@@ -1,16 +1,11 @@
 -- a run with vehicles over its two files
-use Rattle.std.proofs.Common.{◌≡◌, ℕ, ◌∙◌, List, ◌++◌, length, Option, None, Some, Bool, refl, sym, subst, ap}
+use Rattle.std.proofs.Common.{◌≡◌, ℕ, List, ◌++◌, length, Option, None, Some, Bool, refl, sym, subst, ap}
 use Rattle.std.specs.Prelude.{IfSome}
 use Rattle.std.specs.Io.KnownBytes.{Appends}
-use Rattle.wh_words.specs.Lines.{text_of as lines_text}
 use Rattle.wh_lines.specs.Input.{Input}
 use Rattle.wh_grid.specs.Grids.{Floor}
-use Rattle.wh_core.specs.States.{State}
 use Rattle.wh_event.specs.declared.entry.Entry.{Entry}
 use Rattle.wh_replay.specs.declared.asker.Asker.{Asker}
-use Rattle.wh_log.specs.declared.version.Version.TheVariants.{Two}
-use Rattle.wh_log.specs.Logs.{Content}
-use Rattle.wh_log.specs.Torn.{begun_lines}
 use Rattle.wh_book.specs.Drafts.{Seen}
 use Rattle.wh_drive.specs.Drives.{Drive}
 use Rattle.wh_order.specs.Orders.{Order, Represents}
@@ -21,9 +16,9 @@ use Rattle.wh_dispatch.specs.declared.script.DispatchFault.{DispatchFault}
 use Rattle.wh_dispatch.specs.SettingOut.{SetsOutFrom, SomeInStep, NoneIsTold}
 use Rattle.wh_dispatch.proofs.Together.{each_script_happens}
 use Rattle.wh_journal.specs.Journals.{lines_for}
-use Rattle.wh_journal.specs.Surviving.{told_by, HoldsLog, StaysLog}
+use Rattle.wh_journal.specs.Surviving.{HoldsLog, StaysLog}
 use Rattle.wh_journal.specs.declared.rounds.Round.TheVariants.{Ended}
-use Rattle.wh_journal.proofs.Surviving.{begun_grown}
+use Rattle.wh_journal.proofs.Telling.{log_grows}
 use Rattle.wh_continue.specs.Running.{EndsShort, IsKeptLog, closing}
 use Rattle.wh_continue.specs.declared.running.KeepFault.{KeepFault}
 use Rattle.wh_continue.proofs.Begun.{whole_log}
@@ -34,22 +29,11 @@ use Rattle.wh_convoy.specs.declared.riding.RideFault.TheVariants.{End, SetOut}
 use Rattle.wh_dispatch.proofs.Kept.{kept_is_served}
 use Rattle.wh_convoy.proofs.Standing.{both_synced}
 
-appended : (holds : Option (List ℕ)) (text bs : List ℕ) → Appends (Some text) holds bs → holds ≡ Some (text ++ bs)
-appended None text bs p = absurd p
-appended (Some x) text bs p = ap (λ (l : List ℕ). Some l) p
-
 -- the log of the book and the lines of more entries are the log of the book that has grown by them
 stays_more : (begun kept : Option (List ℕ)) (old new : Seen) (added : List Entry) → HoldsLog begun old → Appends begun kept (lines_for added) → new.history ≡ old.history ++ added →
     new.opening ≡ old.opening → StaysLog begun kept new
 stays_more None kept old new added is stands grown opening = tt
-stays_more (Some held) kept old new added is stands grown opening =
-    let whole = lines_text (begun_lines Two (told_by old)) in
-    let grew : Appends (Some whole) kept (lines_for added) = subst (λ (j : Option (List ℕ)). Appends j kept (lines_for added)) is stands in
-    appended kept whole (lines_for added) grew
-    ∙ ap (λ (l : List ℕ). Some l)
-    (sym (begun_grown (told_by old) added)
-    ∙ ap (λ (es : List Entry). let c : Content = record { clock = old.opening.clock; slots = old.opening.slots; entries = es } in lines_text (begun_lines Two c)) (sym grown)
-    ∙ ap (λ (s : State). let c : Content = record { clock = s.clock; slots = s.slots; entries = new.history } in lines_text (begun_lines Two c)) (sym opening))
+stays_more (Some held) kept old new added is stands grown opening = log_grows (Some held) kept old new added grown opening stands is
 
 module _ {X : Type 0} (fits : X → Floor → Bool) (count : X → ℕ) (asker : Asker) (bound : ℕ) where
   -- lines that are served change no opening

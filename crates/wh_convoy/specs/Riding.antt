@@ -20,7 +20,7 @@ use Rattle.wh_continue.specs.Running.{BeginsShort, Counts, EndsShort, IsKeptLog,
 use Rattle.wh_continue.specs.declared.starting.Start.{Start}
 use Rattle.wh_continue.specs.declared.running.KeepFault.{KeepFault}
 use Rattle.wh_continue.specs.declared.running.KeepFault.TheVariants.{Unkept}
-use Rattle.wh_convoy.specs.Beginning.{BeginsArrivals, LeavesArrivals}
+use Rattle.wh_convoy.specs.Beginning.{BeginsArrivals, LeavesArrivals, first_line}
 use Rattle.wh_convoy.specs.Convoys.{Held, ConvoysOn, ConvoysUntil, HasCause, depot}
 use Rattle.wh_convoy.specs.declared.finding.Stood.{Stood}
 use Rattle.wh_convoy.specs.declared.riding.RideFault.{RideFault}
@@ -28,21 +28,21 @@ use Rattle.wh_convoy.specs.declared.riding.RideFault.TheVariants.{Begin, Uncount
 
 -- The number of the entries so far was told, and those that were asked for again; the log was made the log of the run so far, and the
 -- file of arrivals its whole lines.
-pub record BeginsBoth (again : Option ℕ) (book : Seen) (bytes : ℕ) (had counted : Option (List ℕ)) (files begun : Held) : Type 0 where
-  pub counts : Counts again book had counted files.log begun.log
-  pub arrivals : BeginsArrivals bytes files.arrivals begun.arrivals
+pub record BeginsBoth (again : Option ℕ) (start : Start) (bytes : ℕ) (had counted : Option (List ℕ)) (files begun : Held) : Type 0 where
+  pub counts : Counts again start had counted files.log begun.log
+  pub arrivals : BeginsArrivals (first_line start.preface) bytes files.arrivals begun.arrivals
 
 -- why one of the files was not begun
 abbrev pub BeginsNot : KeepFault → Start → (bytes : ℕ) → (files holds : Held) → (log_failed arrivals_failed : Bool) → Type 0
 BeginsNot fault start bytes files holds log_failed arrivals_failed =
     (BeginsShort fault start files.log holds.log log_failed × (holds.arrivals ≡ files.arrivals))
-    ⊎ ((fault ≡ Unkept) × (arrivals_failed ≡ true) × StaysLog files.log holds.log start.book × LeavesArrivals bytes files.arrivals holds.arrivals)
+    ⊎ ((fault ≡ Unkept) × (arrivals_failed ≡ true) × StaysLog files.log holds.log start.book × LeavesArrivals (first_line start.preface) bytes files.arrivals holds.arrivals)
 
 -- Why nothing was served: a file was not begun; or both were, and not all was told.
 abbrev pub StopsBeginning : RideFault → (again : Option ℕ) → Start → (bytes : ℕ) → (had has : Option (List ℕ)) → (files holds synced : Held) → (log_failed arrivals_failed : Bool) → Type 0
 StopsBeginning (Begin fault) again start bytes had has files holds synced log_failed arrivals_failed = (has ≡ had) × BeginsNot fault start bytes files holds log_failed arrivals_failed
 StopsBeginning Uncounted again start bytes had has files holds synced log_failed arrivals_failed =
-    WritesFront had has (first_text again start.book.history) × StaysLog files.log holds.log start.book × BeginsArrivals bytes files.arrivals holds.arrivals × (synced ≡ holds)
+    WritesFront had has (first_text again start) × StaysLog files.log holds.log start.book × BeginsArrivals (first_line start.preface) bytes files.arrivals holds.arrivals × (synced ≡ holds)
 StopsBeginning (Resume fault) again start bytes had has files holds synced log_failed arrivals_failed = ⊥
 StopsBeginning NoMemory again start bytes had has files holds synced log_failed arrivals_failed = ⊥
 StopsBeginning (SetOut fault) again start bytes had has files holds synced log_failed arrivals_failed = ⊥
@@ -129,12 +129,12 @@ StopsFrom fits count asker bound fault before after old spares rest order had ha
 
 -- Both files were begun, that was told, the vehicles set out, the script was served to its end, each line told when its entry and the reports
 -- that it rests on were synced, and the log was ended: it is the log of the whole run.
-pub record RidesOn {X : Type 0} (fits : X → Floor → Bool) (count : X → ℕ) (asker : Asker) (again : Option ℕ) (bound : ℕ) (before after : Input) (book : Seen) (stood : Stood) (spares : List X)
+pub record RidesOn {X : Type 0} (fits : X → Floor → Bool) (count : X → ℕ) (asker : Asker) (again : Option ℕ) (bound : ℕ) (before after : Input) (start : Start) (stood : Stood) (spares : List X)
     (new : Seen) (rest : List X) (crew : Crew) (had has : Option (List ℕ)) (files holds synced : Held) : Type 0 where
   pub counted : Option (List ℕ)
   pub begun : Held
-  pub begins : BeginsBoth again book stood.bytes had counted files begun
-  pub rides : RidesFrom fits count asker bound before after book spares stood.order new rest crew counted has begun holds synced
+  pub begins : BeginsBoth again start stood.bytes had counted files begun
+  pub rides : RidesFrom fits count asker bound before after start.book spares stood.order new rest crew counted has begun holds synced
   pub whole : IfSome files.log (λ _. IsKeptLog holds.log new)
 
 -- Why a run was not brought to its end.
@@ -142,6 +142,6 @@ abbrev pub StopsRide : {X : Type 0} → (X → Floor → Bool) → (X → ℕ) �
     → (had has : Option (List ℕ)) → (files holds synced : Held) → (log_failed arrivals_failed : Bool) → Type 0
 StopsRide fits count asker again bound fault before after start stood planners spares rest had has files holds synced log_failed arrivals_failed =
     ((after ≡ before) × (rest ≡ spares) × StopsBeginning fault again start stood.bytes had has files holds synced log_failed arrivals_failed)
-    ⊎ (MansNot fits count fault start.book planners × (after ≡ before) × (rest ≡ spares) × BeginsBoth again start.book stood.bytes had has files holds × (synced ≡ holds))
-    ⊎ ((counted : Option (List ℕ)) × (begun : Held) × BeginsBoth again start.book stood.bytes had counted files begun
+    ⊎ (MansNot fits count fault start.book planners × (after ≡ before) × (rest ≡ spares) × BeginsBoth again start stood.bytes had has files holds × (synced ≡ holds))
+    ⊎ ((counted : Option (List ℕ)) × (begun : Held) × BeginsBoth again start stood.bytes had counted files begun
     × StopsFrom fits count asker bound fault before after start.book spares rest stood.order counted has begun holds synced log_failed arrivals_failed)

@@ -9,14 +9,14 @@ ghost use Rattle.wh_journal.specs.Surviving.{HoldsLog};
 ghost use Rattle.wh_convoy.specs.Riding.{BeginsBoth, MansNot, StopsBeginning, RidesFrom, StopsFrom, RidesOn, StopsRide};
 ghost use Rattle.wh_journal.specs.Journals.{log_asker};
 
-use crate::beginning::begin_arrivals;
+use crate::beginning::{begin_arrivals, first_line};
 use crate::fault::ConvoyFault;
 use crate::finding::Stood;
 use crate::rounds::convoy;
 use std::alloc::Global;
 use std::io::{Read, Write};
 use wh_book::Book;
-use wh_continue::{KeepFault, LogFile, Start, again_text, begin_log, end_log, tell_first};
+use wh_continue::{KeepFault, LogFile, Preface, Start, again_text, begin_log, end_log, tell_first};
 use wh_dispatch::{DispatchFault, Vehicles, set_out};
 use wh_lines::Lines;
 use wh_log::Form;
@@ -54,26 +54,26 @@ fn begin_all<W: Write, L: LogFile>(
     bytes: usize,
 ) -> Result<(), RideFault>
     requires starts { IsStartOf (L.contents log.old) start.now }
-    ensures begins { OnOk result (BeginsBoth again start.now.book bytes (W.contents writer.old) (W.contents writer.new) (record { log = L.contents log.old; arrivals = L.contents arrivals.old }) (record { log = L.contents log.new; arrivals = L.contents arrivals.new })) }
+    ensures begins { OnOk result (BeginsBoth again start.now bytes (W.contents writer.old) (W.contents writer.new) (record { log = L.contents log.old; arrivals = L.contents arrivals.old }) (record { log = L.contents log.new; arrivals = L.contents arrivals.new })) }
     ensures holds { OnOk result (HoldsLog (L.contents log.new) start.now.book) }
     ensures log_synced { OnOk result (L.synced log.new ≡ L.contents log.new) }
     ensures arrivals_synced { OnOk result (L.synced arrivals.new ≡ L.contents arrivals.new) }
     ensures fault { IfErr result (λ fault. StopsBeginning fault again start.now bytes (W.contents writer.old) (W.contents writer.new) (record { log = L.contents log.old; arrivals = L.contents arrivals.old }) (record { log = L.contents log.new; arrivals = L.contents arrivals.new })
         (record { log = L.synced log.new; arrivals = L.synced arrivals.new }) (L.failed log.new) (L.failed arrivals.new)) }
 {
-    let history = start.book.history();
-    let Ok(text) = again_text(alloc, history, again) else {
+    let Ok(text) = again_text(alloc, start, again) else {
         return Err(RideFault::Begin(KeepFault::NoMemory));
     };
     match begin_log(alloc, log, start) {
         Ok(()) => {}
         Err(fault) => return Err(RideFault::Begin(fault)),
     }
-    match begin_arrivals(arrivals, bytes) {
+    let first = first_line(&start.preface);
+    match begin_arrivals(arrivals, first.as_slice(), bytes) {
         Ok(()) => {}
         Err(fault) => return Err(RideFault::Begin(fault)),
     }
-    match tell_first(writer, history.len() as u64, text.as_slice()) {
+    match tell_first(writer, start.entries(), text.as_slice()) {
         Ok(()) => Ok(()),
         Err(_) => Err(RideFault::Uncounted),
     }
@@ -146,7 +146,7 @@ fn ride<R: Read, W: Write, L: LogFile, P: Planner>(
 }
 
 /// Goes on from a start over the files in which it was found, with vehicles that stand so, and serves the script that is left in the reader,
-/// to the reader's end. First both files are made those of the run so far, and the line `entries N` tells how many entries that has.
+/// to the reader's end. First both files are made those of the run so far, and the line `entries N` tells how many entries it has.
 /// Where an entry is named, those from it on are told again after that line, as the log has them. Then the vehicles set out: all
 /// visits that they have made are told, and the steps that they are to make. Then the script is served as `convoy` does; at its end
 /// the log is given what ends it. The clock waits while a vehicle is `behind` steps or more behind.
@@ -163,23 +163,27 @@ pub fn ride_on<R: Read, W: Write, L: LogFile, P: Planner>(
     behind: u64,
     planners: Vec<P>,
     spares: &mut Vec<P>,
-) -> Result<(Warehouse<P>, Vehicles), RideFault>
+) -> Result<(Warehouse<P>, Vehicles, Option<Preface>), RideFault>
     requires starts { IsStartOf (L.contents log.old) start }
     requires stand { SomeInStep start.book stood.order }
-    ensures runs { IfOk result (λ r. RidesOn P.fits_map P.slot_count (log_asker form) again behind lines.old lines.new start.book stood spares.old.items r.0.book spares.new.items r.1 (W.contents writer.old) (W.contents writer.new)
+    ensures runs { IfOk result (λ r. RidesOn P.fits_map P.slot_count (log_asker form) again behind lines.old lines.new start stood spares.old.items r.0.book spares.new.items r.1 (W.contents writer.old) (W.contents writer.new)
         (record { log = L.contents log.old; arrivals = L.contents arrivals.old }) (record { log = L.contents log.new; arrivals = L.contents arrivals.new }) (record { log = L.synced log.new; arrivals = L.synced arrivals.new })) }
     ensures fault { IfErr result (λ fault. StopsRide P.fits_map P.slot_count (log_asker form) again behind fault lines.old lines.new start stood planners.items spares.old.items spares.new.items (W.contents writer.old) (W.contents writer.new)
         (record { log = L.contents log.old; arrivals = L.contents arrivals.old }) (record { log = L.contents log.new; arrivals = L.contents arrivals.new }) (record { log = L.synced log.new; arrivals = L.synced arrivals.new }) (L.failed log.new) (L.failed arrivals.new)) }
+    ensures preface { IfOk result (λ r. r.2 ≡ start.preface) }
 {
     match begin_all(alloc, again, log, arrivals, writer, &start, stood.bytes) {
         Ok(()) => {}
         Err(fault) => return Err(fault),
     }
-    let Start { book, .. } = start;
+    let Start { book, preface, .. } = start;
     let Stood { order, .. } = stood;
     let (mut warehouse, mut vehicles) = match man(alloc, book, planners, order, behind) {
         Ok(manned) => manned,
-        Err(fault) => return Err(fault),
+        Err(fault) => {
+            drop(preface);
+            return Err(fault);
+        }
     };
     match ride(
         lines,
@@ -192,7 +196,12 @@ pub fn ride_on<R: Read, W: Write, L: LogFile, P: Planner>(
         spares,
         &mut vehicles,
     ) {
-        Ok(()) => Ok((warehouse, vehicles)),
-        Err(fault) => Err(fault),
+        Ok(()) => Ok((warehouse, vehicles, preface)),
+        Err(fault) => {
+            drop(warehouse);
+            drop(vehicles);
+            drop(preface);
+            Err(fault)
+        }
     }
 }
