@@ -1,0 +1,5 @@
+mod Counting
+mod Entries
+mod Digits
+mod Lines
+mod Facts

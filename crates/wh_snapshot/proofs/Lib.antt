@@ -1,0 +1,4 @@
+mod Counting
+mod Columns
+mod Fitting
+pub mod Callers
