@@ -3,13 +3,13 @@ use Rattle.std.proofs.Common.{◌≡◌, ℕ, Bool, true, List, refl, sym, ap, �
 use Rattle.std.specs.Prelude.{IfErr, IfOk}
 use Rattle.std.specs.declared.alloc.AllocError.{AllocError}
 use Rattle.std.specs.Io.KnownBytes.{Appends}
-use Rattle.std.proofs.KnownBytes.{Keeps-refl}
 use Rattle.wh_lines.specs.Input.{Input}
 use Rattle.wh_lines.specs.Output.{WritesFront}
 use Rattle.wh_grid.specs.Grids.{Floor}
 use Rattle.wh_points.specs.Points.{Site}
 use Rattle.wh_event.specs.declared.entry.Entry.{Entry}
 use Rattle.wh_desk.specs.Drafts.{Seen}
+use Rattle.wh_front.specs.declared.front.Count.{Count}
 use Rattle.wh_desk.specs.Pasts.{Origin, origin_of}
 use Rattle.wh_journal.specs.Surviving.{StaysLog}
 use Rattle.wh_continue.specs.Besides.{StandsBeside}
@@ -29,7 +29,7 @@ use Rattle.wh_serve.specs.declared.threads.Client.{Client}
 use Rattle.wh_service.specs.Kept.{IsSet, Siding, first_slots, keep_trouble}
 use Rattle.wh_service.specs.declared.parts.PlannerParts.{PlannerParts}
 use Rattle.wh_service.proofs.Lasting.{start_site, told_before}
-use Rattle.wh_attend.specs.Attends.{Attends, HoldsRun, IsReady, IsUnbegun, IsWhyNoHistory, IsWhyUnattended, IsWhyUnbegun, IsWhyUnended, IsWhyUntold, LeavesRun, Serves, ServesClients, ShowsRun, ending_of, written_of}
+use Rattle.wh_attend.specs.Attends.{Attends, HoldsRun, IsReady, IsUnbegun, IsWhyNoHistory, IsWhyUnattended, IsWhyUnbegun, IsWhyUnended, IsWhyUnkept, LeavesRun, Serves, ServesClients, ShowsRun, ending_of}
 use Rattle.wh_attend.specs.Guests.{IsStaffed}
 use Rattle.wh_attend.specs.declared.ready.Ready.{Ready}
 use Rattle.wh_attend.proofs.Wholes.{run_left, whole_log}
@@ -37,10 +37,10 @@ use Rattle.wh_attend.proofs.Wholes.{run_left, whole_log}
 module _ {R W X : Type 0} (fits : X → Floor → Bool) (count : X → ℕ) (remaining : R → Option (List ℕ)) (contents : W → Option (List ℕ)) (gives : PlannerParts → Result X AllocError → Type 0) (options : ServeOptions)
     (old new : Input) (file : Option (List ℕ)) (beside : Siding) (showed shows : Option (Option (List (List ℕ)))) (site : Site) (run : Ready X) (ready : IsReady gives options old new file beside.before site run) (aside : Option (List ℕ)) (still : aside ≡ beside.before) where
   -- the log was not begun, or the site not kept beside it
-  pub stops_opening : (fault : KeepFault) (told : Trouble) (had now opened : Option (List ℕ)) (left : Option (Option (List ℕ))) (failed : Bool) (bytes : List ℕ) → told ≡ keep_trouble fault → left ≡ Some opened → now ≡ file → bytes ≡ run.text.items
+  pub stops_opening : (fault : KeepFault) (told : Trouble) (now opened : Option (List ℕ)) (left : Option (Option (List ℕ))) (failed : Bool) (bytes : List ℕ) → told ≡ keep_trouble fault → left ≡ Some opened → now ≡ file → bytes ≡ run.text.items
       → IsWhyNotBoth fault run.start now opened failed aside beside.after beside.failed bytes
-      → IsWhyUnattended fits count remaining contents gives options told old new had had file left beside showed shows
-  stops_opening fault told had now opened left failed bytes is given same text why = inr (inl (
+      → IsWhyUnattended fits count remaining contents gives options told old new file left beside showed shows
+  stops_opening fault told now opened left failed bytes is given same text why = inr (inl (
     fault,
     is,
     record {
@@ -54,7 +54,6 @@ module _ {R W X : Type 0} (fits : X → Floor → Bool) (count : X → ℕ) (rem
           (subst (λ (f : Option (List ℕ)). IsWhyNotBoth fault run.start f opened failed aside beside.after beside.failed run.text.items) same
           (subst (λ (t : List ℕ). IsWhyNotBoth fault run.start now opened failed aside beside.after beside.failed t) text why));
     },
-    Keeps-refl had,
   ))
 
   module _ (opens : Opens aside beside.after run.text.items) (safe : beside.synced ≡ beside.after) where
@@ -62,8 +61,8 @@ module _ {R W X : Type 0} (fits : X → Floor → Bool) (count : X → ℕ) (rem
     set = (subst (λ (b : Option (List ℕ)). Opens b beside.after run.text.items) still opens, safe)
 
     -- there is no history
-    pub stops : (told : Trouble) (had : Option (List ℕ)) (left : Option (Option (List ℕ))) → IsWhyNoHistory showed told run.start file left → IsWhyUnattended fits count remaining contents gives options told old new had had file left beside showed shows
-    stops told had left why = inr (inr (inl (record { site = site; run = run; ready = ready; is_set = set; why = why }, Keeps-refl had)))
+    pub stops : (told : Trouble) (left : Option (Option (List ℕ))) → IsWhyNoHistory showed told run.start file left → IsWhyUnattended fits count remaining contents gives options told old new file left beside showed shows
+    stops told left why = inr (inr (inl (record { site = site; run = run; ready = ready; is_set = set; why = why })))
 
     module _ (book final : Seen) (book_is : book ≡ run.start.book) (origin : origin_of final ≡ origin_of book) (served : ServesClients fits count remaining contents options (origin_of book) book.history run.clients.items final.history final.state)
         (last : Result Unit ShowFault) (given : Option (Option (List (List ℕ)))) (back : shows ≡ given) (boards : BoardsFrom (origin_of book) book.history final.history last showed given) where
@@ -80,12 +79,12 @@ module _ {R W X : Type 0} (fits : X → Floor → Bool) (count : X → ℕ) (rem
           (subst (λ (h : List Entry). BoardsFrom (origin_of final) h final.history last showed given) (ap (λ (b : Seen). b.history) book_is)
           (subst (λ (o : Origin). BoardsFrom o book.history final.history last showed given) (sym origin) boards))
 
-      -- the log was kept to its end and written, and the last board was shown
-      pub attends : {A E : Type 0} (kept safe : A → Option (List ℕ)) (said : Result A E) (held begun now synced had has : Option (List ℕ)) (is_whole : Bool) → held ≡ file → StaysLog held begun run.start.book
+      -- the log was kept to its end, and the last board was shown
+      pub attends : {A E : Type 0} (kept safe : A → Option (List ℕ)) (said : Result A E) (held begun now synced : Option (List ℕ)) (is_whole : Bool) → held ≡ file → StaysLog held begun run.start.book
           → IsJournalOf (first_lines begun book) now synced final.history is_whole → IfOk said (λ (_ : A). is_whole ≡ true) → IfOk said (λ (f : A). Appends now (kept f) (ending_of final))
-          → IfOk said (λ (f : A). safe f ≡ kept f) → IfOk said (λ (_ : A). Appends had has (written_of final)) → IfOk said (λ (_ : A). last ≡ Ok tt)
-          → IfOk said (λ (f : A). Attends fits count remaining contents gives options old new had has file (safe f) (kept f) beside showed shows)
-      attends kept safe (Ok f) held begun now synced had has is_whole same stays journal whole ends synced_is tells all = record {
+          → IfOk said (λ (f : A). safe f ≡ kept f) → IfOk said (λ (_ : A). last ≡ Ok tt)
+          → IfOk said (λ (f : A). Attends fits count remaining contents gives options old new file (safe f) (kept f) beside showed shows)
+      attends kept safe (Ok f) held begun now synced is_whole same stays journal whole ends synced_is all = record {
         site = site;
         run = run;
         ready = ready;
@@ -94,15 +93,14 @@ module _ {R W X : Type 0} (fits : X → Floor → Bool) (count : X → ℕ) (rem
         serves = serves;
         whole = whole_log file begun now (kept f) book final (subst (λ (h : Option (List ℕ)). StaysLog h begun book) same (subst (λ (b : Seen). StaysLog held begun b) (sym book_is) stays)) origin (journal.whole whole) ends;
         synced_is = synced_is;
-        tells = tells;
         boards = subst (λ (l : Result Unit ShowFault). ShowsRun run final l showed shows) all shown;
       }
-      attends kept safe (Err e) held begun now synced had has is_whole same stays journal whole ends synced_is tells all = tt
+      attends kept safe (Err e) held begun now synced is_whole same stays journal whole ends synced_is all = tt
 
       -- or was not
-      unended : (told : Trouble) (had has : Option (List ℕ)) (left : Option (Option (List ℕ))) → HoldsRun told file final left → IsWhyUnended last told (written_of final) had has → IsWhyUnattended fits count remaining contents gives options told old new had has file left beside showed shows
-      unended told had has left holds (inl why) = inr (inr (inr (inl (record { site = site; run = run; ready = ready; is_set = set; final = final; serves = serves; why = why; holds = holds; last = last; boards = shown }))))
-      unended told had has left holds (inr bad) = inr (inr (inr (inr (record {
+      unended : (told : Trouble) (left : Option (Option (List ℕ))) → HoldsRun told file final left → IsWhyUnended last told → IsWhyUnattended fits count remaining contents gives options told old new file left beside showed shows
+      unended told left holds (inl why) = inr (inr (inr (inl (record { site = site; run = run; ready = ready; is_set = set; final = final; serves = serves; why = why; holds = holds; last = last; boards = shown }))))
+      unended told left holds (inr bad) = inr (inr (inr (inr (record {
         fault = bad.0;
         told_is = bad.2;
         site = site;
@@ -112,16 +110,15 @@ module _ {R W X : Type 0} (fits : X → Floor → Bool) (count : X → ℕ) (rem
         final = final;
         serves = serves;
         holds = holds;
-        tells = bad.3;
         boards = subst (λ (l : Result Unit ShowFault). ShowsRun run final l showed shows) bad.1 shown;
       }))))
 
-      pub untold : {A E : Type 0} (told : E → Trouble) (left : E → Option (Option (List ℕ))) (said : Result A E) (held begun now synced had has : Option (List ℕ)) (is_whole : Bool) → held ≡ file → StaysLog held begun run.start.book
-          → IsJournalOf (first_lines begun book) now synced final.history is_whole → IfErr said (λ (e : E). LeavesRun is_whole (told e) (ending_of final) now (left e)) → IfErr said (λ (e : E). IsWhyUnended last (told e) (written_of final) had has)
-          → IfErr said (λ (e : E). IsWhyUnattended fits count remaining contents gives options (told e) old new had has file (left e) beside showed shows)
-      untold told left (Ok f) held begun now synced had has is_whole same stays journal leaves why = tt
-      untold told left (Err e) held begun now synced had has is_whole same stays journal leaves why =
-          unended (told e) had has (left e) (run_left (told e) file begun now synced (left e) book final is_whole (subst (λ (h : Option (List ℕ)). StaysLog h begun book) same (subst (λ (b : Seen). StaysLog held begun b) (sym book_is) stays)) origin journal leaves) why
+      pub untold : {A E : Type 0} (told : E → Trouble) (left : E → Option (Option (List ℕ))) (said : Result A E) (held begun now synced : Option (List ℕ)) (is_whole : Bool) → held ≡ file → StaysLog held begun run.start.book
+          → IsJournalOf (first_lines begun book) now synced final.history is_whole → IfErr said (λ (e : E). LeavesRun is_whole (told e) (ending_of final) now (left e)) → IfErr said (λ (e : E). IsWhyUnended last (told e))
+          → IfErr said (λ (e : E). IsWhyUnattended fits count remaining contents gives options (told e) old new file (left e) beside showed shows)
+      untold told left (Ok f) held begun now synced is_whole same stays journal leaves why = tt
+      untold told left (Err e) held begun now synced is_whole same stays journal leaves why =
+          unended (told e) (left e) (run_left (told e) file begun now synced (left e) book final is_whole (subst (λ (h : Option (List ℕ)). StaysLog h begun book) same (subst (λ (b : Seen). StaysLog held begun b) (sym book_is) stays)) origin journal leaves) why
 
 -- a log was not begun, and its file goes back with what it holds
 pub unbegun : (told : Trouble) (start begun : Start) (file now opened holds : Option (List ℕ)) → now ≡ file → IsOpened start begun now opened → IsWhyUnbegun told begun opened holds → IsUnbegun told start file (Some holds)
@@ -140,25 +137,17 @@ pub stands_as : (before : Option (List ℕ)) (text bytes : List ℕ) (found : Be
 stands_as before text bytes found same stands = subst (λ (t : List ℕ). StandsBeside before t found) same stands
 
 -- the staff on a grid that lies elsewhere
-pub staffed_on : {X : Type 0} (gives : PlannerParts → Result X AllocError → Type 0) (options : ServeOptions) (grid at : Floor) (slots : List ℕ) (earlier : List Entry) (planners : List X) (clients : List (Client X)) → grid ≡ at →
-    IsStaffed gives options grid slots earlier planners clients → IsStaffed gives options at slots earlier planners clients
-staffed_on gives options grid at slots earlier planners clients same staffed = subst (λ (f : Floor). IsStaffed gives options f slots earlier planners clients) same staffed
+pub staffed_on : {X : Type 0} (gives : PlannerParts → Result X AllocError → Type 0) (options : ServeOptions) (grid at : Floor) (slots : List ℕ) (earlier : List Entry) (counts : List Count) (planners : List X) (clients : List (Client X)) → grid ≡ at →
+    IsStaffed gives options grid slots earlier counts planners clients → IsStaffed gives options at slots earlier counts planners clients
+staffed_on gives options grid at slots earlier counts planners clients same staffed = subst (λ (f : Floor). IsStaffed gives options f slots earlier counts planners clients) same staffed
 
 pub opens_as : (before after : Option (List ℕ)) (text bytes : List ℕ) → bytes ≡ text → Opens before after bytes → Opens before after text
 opens_as before after text bytes same opens = subst (λ (t : List ℕ). Opens before after t) same opens
 
--- a front of the log was written
-pub written_short : (told : Trouble) (log text : List ℕ) (had has : Option (List ℕ)) → told ≡ trouble.Unwritten → text ≡ log → WritesFront had has text → IsWhyUntold told log had has
-written_short told log text had has is same front = subst (λ (t : Trouble). IsWhyUntold t log had has) (sym is) (subst (λ (t : List ℕ). WritesFront had has t) same front)
-
--- the log's end was not kept, and nothing was written
-pub unkept : (fault : KeepFault) (told : Trouble) (log : List ℕ) (had : Option (List ℕ)) → told ≡ keep_trouble fault → IsWhyUntold told log had had
-unkept kept.Unkept told log had is = subst (λ (t : Trouble). IsWhyUntold t log had had) (sym is) (Keeps-refl had)
-unkept kept.NoMemory told log had is = subst (λ (t : Trouble). IsWhyUntold t log had had) (sym is) (Keeps-refl had)
-
--- out of memory, and nothing was written
-pub no_memory : (told : Trouble) (log : List ℕ) (had : Option (List ℕ)) → told ≡ trouble.NoMemory → IsWhyUntold told log had had
-no_memory told log had is = subst (λ (t : Trouble). IsWhyUntold t log had had) (sym is) (Keeps-refl had)
+-- the log's end was not kept
+pub unkept : (fault : KeepFault) (told : Trouble) → told ≡ keep_trouble fault → IsWhyUnkept told
+unkept kept.Unkept told is = subst IsWhyUnkept (sym is) tt
+unkept kept.NoMemory told is = subst IsWhyUnkept (sym is) tt
 
 -- what holds anyhow holds where the call ended well
 pub ok_anyhow : {A E : Type 0} (came : Result A E) (X : Type 0) → X → IfOk came (λ _. X)

@@ -1,17 +1,14 @@
 -- What a whole run of `serve` does, from the site that is read to the log that is kept.
 use Rattle.std.specs.Prelude.{◌≡◌, ◌⊎◌, ◌+◌, ℕ, Bool, true, false, List, [], length, cond, Option, None, Some, IfSome, Result, Ok, Err}
 use Rattle.std.specs.declared.alloc.AllocError.{AllocError}
-use Rattle.std.specs.Io.KnownBytes.{Appends, Keeps}
 use Rattle.wh_lines.specs.Input.{Input}
 use Rattle.wh_lines.specs.Output.{WritesFront}
 use Rattle.wh_grid.specs.Grids.{Floor}
 use Rattle.wh_points.specs.Points.{Site}
 use Rattle.wh_event.specs.declared.entry.Entry.{Entry}
 use Rattle.wh_core.specs.States.{State}
-use Rattle.wh_words.specs.Lines.{text_of as lines_text}
-use Rattle.wh_log.specs.Logs.{log_lines}
-use Rattle.wh_log.specs.declared.version.Version.TheVariants.{Two}
-use Rattle.wh_journal.specs.Surviving.{IsLogOfBook, StaysLog, told_by}
+use Rattle.wh_restore.specs.Heads.{IsHeadOf}
+use Rattle.wh_journal.specs.Surviving.{IsLogOfBook, StaysLog}
 use Rattle.wh_continue.specs.Besides.{StandsBeside}
 use Rattle.wh_continue.specs.Opening.{IsOpened, IsWhyNotBoth}
 use Rattle.wh_continue.specs.Running.{IsLeft, IsKeptLog, closing}
@@ -29,25 +26,17 @@ use Rattle.wh_serve.specs.Texts.{receipt_text}
 use Rattle.wh_serve.specs.declared.threads.Client.{Client}
 use Rattle.wh_serve.specs.declared.doors.WorkerEnd.{WorkerEnd}
 use Rattle.wh_host.specs.declared.pacing.Pacing.{Pacing}
-use Rattle.wh_host.specs.Runs.{IsJournalOf, ServedFrom, first_lines}
+use Rattle.wh_host.specs.Runs.{IsJournalOf, ServedFrom}
 use Rattle.wh_service.specs.Kept.{EndsAtStart, HasLog, IsSet, IsUntouched, Siding, StartsFrom, keep_trouble}
 use Rattle.wh_service.specs.Plays.{form_of}
 use Rattle.wh_service.specs.declared.parts.PlannerParts.{PlannerParts}
-use Rattle.wh_attend.specs.Guests.{IsStaffed}
+use Rattle.wh_attend.specs.Guests.{IsStaffed, counts_before}
 use Rattle.wh_attend.specs.Shares.{IsPacingOf}
 use Rattle.wh_attend.specs.declared.ready.Ready.{Ready}
-
--- the log of a book's run
-abbrev pub log_of : Seen → List ℕ
-log_of book = lines_text (log_lines Two (told_by book))
 
 -- the line that ends the log of a closed run, to which nothing can be added; a run that may go on has none
 abbrev pub ending_of : Seen → List ℕ
 ending_of final = closing final.state.closed (length final.history)
-
--- what is written of a run: the log of a closed one
-abbrev pub written_of : Seen → List ℕ
-written_of final = cond final.state.closed (log_of final) []
 
 -- A run is ready. A site was read, and the input ended after it; its text stands beside the log, or a beginning of it does; by the log
 -- the run starts from this, with one planner for each agent, and with the clients and their spare planners.
@@ -57,7 +46,7 @@ pub record IsReady {X : Type 0} (gives : PlannerParts → Result X AllocError �
   pub stands : StandsBeside beside run.text.items run.found
   pub starts : StartsFrom options.fleet site file run.start
   pub has_log : HasLog options.anew run.found run.start
-  pub staffed : IsStaffed gives options site.grid run.start.book.state.slots run.start.book.history run.planners.items run.clients.items
+  pub staffed : IsStaffed gives options site.grid run.start.book.state.slots run.start.book.history (counts_before run.start.preface) run.planners.items run.clients.items
 
 -- Clients were served, and beside them a worker for all agents and the clock took turns, where the options name one: the history goes on
 -- from the earlier one, by no more entries than the options name. Remaining and contents are the bytes that a reader and a writer of a
@@ -83,10 +72,10 @@ abbrev pub ShowsRun : {X : Type 0} → Ready X → Seen → Result Unit ShowFaul
 ShowsRun run final last showed shows = BoardsFrom (origin_of final) run.start.book.history final.history last showed shows
 
 -- A run was ready, its site was kept beside the log, and its clients were served, until the run was closed or the service stopped. The
--- file is the log of the whole run now, old and new entries, if it tells its bytes, and all of it is synced; the log of a closed run was
--- written, and the board of the whole run was shown.
+-- file is the log of the whole run now, old and new entries, if it tells its bytes, and all of it is synced; and the board of the whole run
+-- was shown.
 pub record Attends {R W X : Type 0} (fits : X → Floor → Bool) (count : X → ℕ) (remaining : R → Option (List ℕ)) (contents : W → Option (List ℕ)) (gives : PlannerParts → Result X AllocError → Type 0) (options : ServeOptions)
-    (old new : Input) (had has file synced holds : Option (List ℕ)) (beside : Siding) (showed shows : Option (Option (List (List ℕ)))) : Type 0 where
+    (old new : Input) (file synced holds : Option (List ℕ)) (beside : Siding) (showed shows : Option (Option (List (List ℕ)))) : Type 0 where
   pub site : Site
   pub run : Ready X
   pub ready : IsReady gives options old new file beside.before site run
@@ -95,7 +84,6 @@ pub record Attends {R W X : Type 0} (fits : X → Floor → Bool) (count : X →
   pub serves : Serves fits count remaining contents options site run final
   pub whole : IfSome file (λ _. IsKeptLog holds final)
   pub synced_is : synced ≡ holds
-  pub tells : Appends had has (written_of final)
   pub boards : ShowsRun run final (Ok tt) showed shows
 
 -- A site was read by the rule that was asked for, and more follows it.
@@ -154,19 +142,15 @@ pub record StopsAttending {X D : Type 0} (gives : PlannerParts → Result X Allo
   pub is_set : IsSet beside run.text.items
   pub why : IsWhyNoHistory screen told run.start file left
 
--- Why a log was not written: the file that keeps it failed before, or memory ran out, and nothing was written; or a front of it was.
-abbrev pub IsWhyUntold : Trouble → List ℕ → (had has : Option (List ℕ)) → Type 0
-IsWhyUntold trouble.Unkept log had has = Keeps had has
-IsWhyUntold trouble.NoMemory log had has = Keeps had has
-IsWhyUntold trouble.Unwritten log had has = WritesFront had has log
-IsWhyUntold _ log had has = ⊥
+-- Why a log was not kept to its end: the file failed, or memory ran out.
+abbrev pub IsWhyUnkept : Trouble → Type 0
+IsWhyUnkept trouble.Unkept = Unit {0}
+IsWhyUnkept trouble.NoMemory = Unit {0}
+IsWhyUnkept _ = ⊥
 
--- Why a run whose clients were served did not end well, and what was written: its log was not written; or it was, and the screen did not
--- take the last board.
-abbrev pub IsWhyUnended : (last : Result Unit ShowFault) → Trouble → List ℕ → (had has : Option (List ℕ)) → Type 0
-IsWhyUnended last told log had has =
-    IsWhyUntold told log had has
-    ⊎ ((fault : ShowFault) × (last ≡ Err fault) × (told ≡ trouble_of_show fault) × Appends had has log)
+-- Why a run whose clients were served did not end well: its log was not kept to its end; or the screen did not take the last board.
+abbrev pub IsWhyUnended : (last : Result Unit ShowFault) → Trouble → Type 0
+IsWhyUnended last told = IsWhyUnkept told ⊎ ((fault : ShowFault) × (last ≡ Err fault) × (told ≡ trouble_of_show fault))
 
 -- What a journal holds at a fault behind a run, which is given back: what it held, where it was not whole; else a front of what ends its
 -- log follows.
@@ -180,32 +164,34 @@ abbrev pub HoldsAll : (holds : Option (List ℕ)) → Seen → Type 0
 HoldsAll holds final = (log : Option (List ℕ)) × IsLogOfBook log final × WritesFront log holds (ending_of final)
 
 -- its first entries stand there, and maybe a front of the lines of the next ones
-abbrev pub HoldsFirst : (file holds : Option (List ℕ)) → Seen → Type 0
-HoldsFirst file holds final = (synced : Option (List ℕ)) × IsJournalOf (first_lines file final) holds synced final.history false
+pub record HoldsFirst (holds : Option (List ℕ)) (final : Seen) : Type 0 where
+  pub head : List ℕ
+  pub is_head : IsHeadOf final.opening head
+  pub synced : Option (List ℕ)
+  pub journal : IsJournalOf (Some head) holds synced final.history false
 
 -- The file of the log, if it tells its bytes, is given back with all entries of the run; or, where it failed, with the first of them.
 abbrev pub HoldsRun : Trouble → (file : Option (List ℕ)) → Seen → (left : Option (Option (List ℕ))) → Type 0
 HoldsRun told file final left =
-    IfSome file (λ _. (holds : Option (List ℕ)) × (left ≡ Some holds) × (HoldsAll holds final ⊎ ((told ≡ trouble.Unkept) × HoldsFirst file holds final)))
+    IfSome file (λ _. (holds : Option (List ℕ)) × (left ≡ Some holds) × (HoldsAll holds final ⊎ ((told ≡ trouble.Unkept) × HoldsFirst holds final)))
 
--- The clients of a run were served, and boards were shown as far as may be; and its log was not kept to its end, or not written where
--- the run is closed.
-pub record AttendsUntold {R W X : Type 0} (fits : X → Floor → Bool) (count : X → ℕ) (remaining : R → Option (List ℕ)) (contents : W → Option (List ℕ)) (gives : PlannerParts → Result X AllocError → Type 0) (options : ServeOptions)
-    (told : Trouble) (old new : Input) (had has file : Option (List ℕ)) (left : Option (Option (List ℕ))) (beside : Siding) (showed shows : Option (Option (List (List ℕ)))) : Type 0 where
+-- The clients of a run were served, and boards were shown as far as may be; and its log was not kept to its end.
+pub record AttendsUnkept {R W X : Type 0} (fits : X → Floor → Bool) (count : X → ℕ) (remaining : R → Option (List ℕ)) (contents : W → Option (List ℕ)) (gives : PlannerParts → Result X AllocError → Type 0) (options : ServeOptions)
+    (told : Trouble) (old new : Input) (file : Option (List ℕ)) (left : Option (Option (List ℕ))) (beside : Siding) (showed shows : Option (Option (List (List ℕ)))) : Type 0 where
   pub site : Site
   pub run : Ready X
   pub ready : IsReady gives options old new file beside.before site run
   pub is_set : IsSet beside run.text.items
   pub final : Seen
   pub serves : Serves fits count remaining contents options site run final
-  pub why : IsWhyUntold told (written_of final) had has
+  pub why : IsWhyUnkept told
   pub holds : HoldsRun told file final left
   pub last : Result Unit ShowFault
   pub boards : ShowsRun run final last showed shows
 
--- The clients of a run were served, and its log was kept to its end and written; but the screen did not take the board of the whole run.
+-- The clients of a run were served, and its log was kept to its end; but the screen did not take the board of the whole run.
 pub record AttendsUnshown {R W X : Type 0} (fits : X → Floor → Bool) (count : X → ℕ) (remaining : R → Option (List ℕ)) (contents : W → Option (List ℕ)) (gives : PlannerParts → Result X AllocError → Type 0) (options : ServeOptions)
-    (told : Trouble) (old new : Input) (had has file : Option (List ℕ)) (left : Option (Option (List ℕ))) (beside : Siding) (showed shows : Option (Option (List (List ℕ)))) : Type 0 where
+    (told : Trouble) (old new : Input) (file : Option (List ℕ)) (left : Option (Option (List ℕ))) (beside : Siding) (showed shows : Option (Option (List (List ℕ)))) : Type 0 where
   pub fault : ShowFault
   pub told_is : told ≡ trouble_of_show fault
   pub site : Site
@@ -215,16 +201,15 @@ pub record AttendsUnshown {R W X : Type 0} (fits : X → Floor → Bool) (count 
   pub final : Seen
   pub serves : Serves fits count remaining contents options site run final
   pub holds : HoldsRun told file final left
-  pub tells : Appends had has (written_of final)
   pub boards : ShowsRun run final (Err fault) showed shows
 
 -- Why it ended otherwise, the earlier first. Before the run is ready the file of the log, which is given back, and the one beside it are as they
--- were; before the clients were served nothing is written, and from then on the file of the log holds their run.
+-- were; once the clients were served the file of the log holds their run.
 abbrev pub IsWhyUnattended : {R W X : Type 0} → (X → Floor → Bool) → (X → ℕ) → (R → Option (List ℕ)) → (W → Option (List ℕ)) → (PlannerParts → Result X AllocError → Type 0) → ServeOptions → Trouble
-    → (old new : Input) → (had has file : Option (List ℕ)) → (left : Option (Option (List ℕ))) → Siding → (showed shows : Option (Option (List (List ℕ)))) → Type 0
-IsWhyUnattended fits count remaining contents gives options told old new had has file left beside showed shows =
-    (IsWhyUnready gives options told old new file beside.before × Keeps had has × (left ≡ Some file) × IsUntouched beside)
-    ⊎ ((fault : KeepFault) × (told ≡ keep_trouble fault) × StopsOpening gives options fault old new file left beside × Keeps had has)
-    ⊎ (StopsAttending gives options told old new file left beside showed × Keeps had has)
-    ⊎ AttendsUntold fits count remaining contents gives options told old new had has file left beside showed shows
-    ⊎ AttendsUnshown fits count remaining contents gives options told old new had has file left beside showed shows
+    → (old new : Input) → (file : Option (List ℕ)) → (left : Option (Option (List ℕ))) → Siding → (showed shows : Option (Option (List (List ℕ)))) → Type 0
+IsWhyUnattended fits count remaining contents gives options told old new file left beside showed shows =
+    (IsWhyUnready gives options told old new file beside.before × (left ≡ Some file) × IsUntouched beside)
+    ⊎ ((fault : KeepFault) × (told ≡ keep_trouble fault) × StopsOpening gives options fault old new file left beside)
+    ⊎ StopsAttending gives options told old new file left beside showed
+    ⊎ AttendsUnkept fits count remaining contents gives options told old new file left beside showed shows
+    ⊎ AttendsUnshown fits count remaining contents gives options told old new file left beside showed shows

@@ -61,15 +61,13 @@ fn begin<L: LogFile, P: Planner>(
 /// as many more entries as the options name, or else its share of the journal's; a client that was not named may do nothing.
 /// Where the options name a worker, it takes turns for all agents and the clock, until the clients are through. Boards of the run
 /// are shown on the screen meanwhile, if there is one, which comes back once the clients were served. When all are through, since the
-/// warehouse is closed, the file is given the line that ends the log, and the log of the whole run, old and new entries, is written; where
-/// the service was stopped a next start goes on from the file. What is in the log survives a kill, and no reply is told before its entry was synced. `make` makes one planner of its parts, and fails only when out
+/// warehouse is closed, the file is given the line that ends the log; where the service was stopped a next start goes on from the file. What is in the log survives a kill, and no reply is told before its entry was synced. `make` makes one planner of its parts, and fails only when out
 /// of memory. Errors are reported in this order: the site, what follows it, the file beside the log, the log, the bank and the
 /// planners, a client without a way in, the log's first lines, what is written beside the log, the log's beginning, the first board, the run, the end of the log,
-/// the writer, the last board. Before the clients are served nothing is written to the output. The log's file is returned
+/// the last board. The log's file is returned
 /// if all went well, and given back with the trouble where the run did not have it yet: as it was, unless the log's beginning failed.
 pub fn attend<
     R: Read,
-    W: Write,
     L: LogFile + Send + Drop,
     B: LogFile,
     P: Planner,
@@ -83,7 +81,6 @@ pub fn attend<
     rt: &T,
     alloc: Global,
     lines: &mut Lines<R>,
-    output: &mut W,
     options: &ServeOptions<'_>,
     mut file: L,
     beside: &mut B,
@@ -94,10 +91,10 @@ pub fn attend<
     requires range { IsOfFleet options.now.fleet }
     requires named { AreNamed options.now.clients.items }
     requires callable { F.IsAlwaysCallable make }
-    ensures ok { IfOk result (λ kept. Attends P.fits_map P.slot_count (λ x. I.remaining x) (λ x. O.contents x) (F.post make) options.now lines.old lines.new (W.contents output.old) (W.contents output.new) (L.contents file) (L.synced kept) (L.contents kept)
+    ensures ok { IfOk result (λ kept. Attends P.fits_map P.slot_count (λ x. I.remaining x) (λ x. O.contents x) (F.post make) options.now lines.old lines.new (L.contents file) (L.synced kept) (L.contents kept)
         (record { before = B.contents beside.old; after = B.contents beside.new; synced = B.synced beside.new; failed = B.failed beside.new }) (option_map V.shown screen.old) (option_map V.shown screen.new)) }
     ensures asked { IfOk result (λ _. D.all_have doors.now ≡ true) }
-    ensures fault { IfErr result (λ e. IsWhyUnattended P.fits_map P.slot_count (λ x. I.remaining x) (λ x. O.contents x) (F.post make) options.now e.trouble lines.old lines.new (W.contents output.old) (W.contents output.new) (L.contents file) (option_map L.contents e.file)
+    ensures fault { IfErr result (λ e. IsWhyUnattended P.fits_map P.slot_count (λ x. I.remaining x) (λ x. O.contents x) (F.post make) options.now e.trouble lines.old lines.new (L.contents file) (option_map L.contents e.file)
         (record { before = B.contents beside.old; after = B.contents beside.new; synced = B.synced beside.new; failed = B.failed beside.new }) (option_map V.shown screen.old) (option_map V.shown screen.new)) }
 {
     let ready = match prepare(alloc, lines, options, &mut file, beside, doors, &make) {
@@ -140,7 +137,7 @@ pub fn attend<
         doors.end();
     }
     match serve_all(rt, alloc, options, warehouse, clients, file, screen, doors) {
-        Ok(ran) => end_run(alloc, output, screen, ran),
+        Ok(ran) => end_run(alloc, screen, ran),
         Err(trouble) => {
             let file = None;
             Err(Unattended { trouble, file })

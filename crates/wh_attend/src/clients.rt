@@ -6,15 +6,16 @@ ghost use Rattle.wh_claims.specs.Bank.{Belongs};
 ghost use Rattle.wh_log.specs.Logs.{IsSlots};
 ghost use Rattle.wh_desk.specs.Lists.{AllAt};
 ghost use Rattle.wh_service.specs.Fleets.{IsOfFleet, IsWhyUnclaimed, IsWhyUnseated};
-ghost use Rattle.wh_attend.specs.Guests.{AreNamed, HaveRoom, IsClient, IsNamed, IsNobody, IsStaffed, numbers_of, rights_of};
+ghost use Rattle.wh_attend.specs.Guests.{AreNamed, HaveRoom, IsClient, IsNamed, IsNobody, IsStaffed, counts_before, numbers_of, rights_of};
 
-use crate::shares::{WORKER_NUMBER, had_by, share_of, sharers};
+use crate::shares::{WORKER_NUMBER, counts_before, entries_told, had_by, share_of, sharers};
 use std::alloc::{AllocError, Global};
 use std::sync::Arc;
 use wh_claims::{Bank, BankSeat};
 use wh_continue::Start;
 use wh_edge::Trouble;
 use wh_event::Entry;
+use wh_front::Count;
 use wh_grid::Grid;
 use wh_options::{ClientOptions, ClientRights, ServeOptions};
 use wh_planner::Planner;
@@ -102,6 +103,7 @@ fn nobody<P: Planner>(alloc: Global) -> Client<P>
         allowance: Allowance {
             rights: Rights::default(),
             entries: 0,
+            before: 0,
         },
     }
 }
@@ -115,6 +117,7 @@ fn client_of<P: Planner, F: Fn(PlannerParts) -> Result<P, AllocError>>(
     seat: &mut BankSeat,
     make: &F,
     history: &[Entry],
+    counts: &[Count],
     number: u32,
 ) -> Result<Client<P>, Trouble>
     requires range { IsOfFleet options.now.fleet }
@@ -122,7 +125,7 @@ fn client_of<P: Planner, F: Fn(PlannerParts) -> Result<P, AllocError>>(
     requires callable { F.IsAlwaysCallable make.now }
     requires seat { Belongs seat.old (arc_value bank.now) }
     ensures seat { Belongs seat.new (arc_value bank.now) }
-    ensures ok { IfOk result (IsClient (F.post make.now) options.now (arc_value grid.now) (arc_value bank.now) history.now number) }
+    ensures ok { IfOk result (IsClient (F.post make.now) options.now (arc_value grid.now) (arc_value bank.now) history.now counts.now number) }
     ensures fault { IfErr result (IsWhyUnclaimed options.now.fleet.slots) }
 {
     let fleet = &options.fleet;
@@ -137,6 +140,7 @@ fn client_of<P: Planner, F: Fn(PlannerParts) -> Result<P, AllocError>>(
         allowance: Allowance {
             rights: rights_of(named.rights),
             entries: had_by(history, number) + share,
+            before: entries_told(counts, number),
         },
     })
 }
@@ -150,6 +154,7 @@ fn clients_of<P: Planner, F: Fn(PlannerParts) -> Result<P, AllocError>>(
     seat: &mut BankSeat,
     make: &F,
     history: &[Entry],
+    counts: &[Count],
     places: u32,
 ) -> Result<Vec<Client<P>>, Trouble>
     requires range { IsOfFleet options.now.fleet }
@@ -157,12 +162,14 @@ fn clients_of<P: Planner, F: Fn(PlannerParts) -> Result<P, AllocError>>(
     requires callable { F.IsAlwaysCallable make.now }
     requires seat { Belongs seat.old (arc_value bank.now) }
     ensures count { IfOk result (λ clients. length clients.items ≡ places) }
-    ensures each { IfOk result (λ clients. AllAt (IsClient (F.post make.now) options.now (arc_value grid.now) (arc_value bank.now) history.now) clients.items) }
+    ensures each { IfOk result (λ clients. AllAt (IsClient (F.post make.now) options.now (arc_value grid.now) (arc_value bank.now) history.now counts.now) clients.items) }
     ensures fault { IfErr result (IsWhyUnclaimed options.now.fleet.slots) }
 {
     let mut clients = Vec::with_capacity(alloc, places as usize)?;
     for number in 0..places {
-        let client = client_of(alloc, options, grid, bank, seat, make, history, number)?;
+        let client = client_of(
+            alloc, options, grid, bank, seat, make, history, counts, number,
+        )?;
         clients.push(client)?;
     }
     Ok(clients)
@@ -191,20 +198,21 @@ pub(crate) fn make_staff<P: Planner, F: Fn(PlannerParts) -> Result<P, AllocError
     requires slots { All IsSlots start.now.book.state.slots }
     requires callers { All (λ entry. entry.caller < 64) start.now.book.history }
     requires callable { F.IsAlwaysCallable make.now }
-    ensures ok { IfOk result (λ s. IsStaffed (F.post make.now) options.now (arc_value grid.now) start.now.book.state.slots start.now.book.history s.planners.items s.clients.items) }
+    ensures ok { IfOk result (λ s. IsStaffed (F.post make.now) options.now (arc_value grid.now) start.now.book.state.slots start.now.book.history (counts_before start.now.preface) s.planners.items s.clients.items) }
     ensures fault { IfErr result (λ told. IsWhyUnseated start.now.book.state.slots told ⊎ IsWhyUnclaimed options.now.fleet.slots told) }
 {
     let fleet = &options.fleet;
     let history = start.book.history();
     let slots = start.book.slots();
     let places = places_beside(options, history);
+    let counts = counts_before(start);
     let (bank, mut seat) = Bank::new(alloc, fleet.bank)?;
     let planners = match seated(alloc, fleet, grid, &bank, &mut seat, make, slots) {
         Ok(planners) => planners,
         Err(trouble) => return Err(trouble),
     };
     match clients_of(
-        alloc, options, grid, &bank, &mut seat, make, history, places,
+        alloc, options, grid, &bank, &mut seat, make, history, counts, places,
     ) {
         Ok(clients) => Ok(Staff { planners, clients }),
         Err(trouble) => Err(trouble),

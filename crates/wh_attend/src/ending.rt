@@ -1,19 +1,17 @@
-//! The end of a run whose clients were served: its log is kept to its end, that of a closed run is ended and written, and it is told
-//! whether its last board was shown.
+//! The end of a run whose clients were served: its log is kept to its end, that of a closed run is ended, and it is told whether its
+//! last board was shown.
 
 ghost use Rattle.std.specs.Prelude.{◌≡◌, true, IfErr, IfOk, Ok, OnOk, option_map};
 ghost use Rattle.std.specs.Io.KnownBytes.{Appends};
 ghost use Rattle.wh_lines.specs.Output.{WritesFront};
-ghost use Rattle.wh_attend.specs.Attends.{IsWhyUnended, LeavesRun, ending_of, written_of};
+ghost use Rattle.wh_attend.specs.Attends.{IsWhyUnended, LeavesRun, ending_of};
 
 use std::alloc::Global;
-use std::io::Write;
 use wh_continue::{KeepFault, LogFile, Warehouse, end_log};
 use wh_edge::Trouble;
 use wh_host::{Ran, trouble_of_show};
-use wh_log::{NoMemory, log_text};
 use wh_planner::Planner;
-use wh_service::{keep_trouble, write_text};
+use wh_service::keep_trouble;
 
 /// Why clients were not served to a good end, and the file of the log, where it is given back: a start that is refused leaves it as it was.
 #[derive(Drop)]
@@ -22,21 +20,6 @@ pub struct Unattended<L> {
     pub trouble: Trouble,
     /// The file of the log, if it is given back.
     pub file: Option<L>,
-}
-
-/// What is written of the warehouse's run: its log, where it is closed. Fails when out of memory.
-fn text_of<P: Planner>(alloc: Global, warehouse: &Warehouse<P>) -> Result<Vec<u8>, Trouble>
-    ensures ok { IfOk result (λ text. text.items ≡ written_of warehouse.now.book) }
-    ensures fault { IfErr result (λ told. told ≡ Trouble.NoMemory) }
-{
-    if !warehouse.closed() {
-        return Ok(Vec::new(alloc));
-    }
-    let clock = warehouse.start();
-    match log_text(alloc, clock, warehouse.first_slots(), warehouse.history()) {
-        Ok(text) => Ok(text),
-        Err(NoMemory) => Err(Trouble::NoMemory),
-    }
 }
 
 /// Gives the log of a closed warehouse its last line; a log that may be gone on with has none. All of it is synced.
@@ -57,11 +40,10 @@ fn end_closed<L: LogFile, P: Planner>(
     )
 }
 
-/// Gives the screen back and the log of a closed warehouse its last line, writes all of that log, and then tells whether the last board
-/// was shown. Where the journal has failed the log is neither ended nor written. The journal goes back with a trouble.
-pub(crate) fn end_run<L: LogFile + Drop, W: Write, P: Planner, V: Drop>(
+/// Gives the screen back and the log of a closed warehouse its last line, and then tells whether the last board was shown. Where the
+/// journal has failed the log is not ended. The journal goes back with a trouble.
+pub(crate) fn end_run<L: LogFile + Drop, P: Planner, V: Drop>(
     alloc: Global,
-    output: &mut W,
     screen: &mut Option<V>,
     ran: Ran<L, V, P>,
 ) -> Result<L, Unattended<L>>
@@ -69,9 +51,8 @@ pub(crate) fn end_run<L: LogFile + Drop, W: Write, P: Planner, V: Drop>(
     ensures whole { IfOk result (λ _. ran.is_whole ≡ true) }
     ensures ends { IfOk result (λ file. Appends (L.contents ran.journal) (L.contents file) (ending_of ran.history.warehouse.book)) }
     ensures synced { IfOk result (λ file. L.synced file ≡ L.contents file) }
-    ensures tells { IfOk result (λ _. Appends (W.contents output.old) (W.contents output.new) (written_of ran.history.warehouse.book)) }
     ensures shown { IfOk result (λ _. ran.last ≡ Ok tt) }
-    ensures fault { IfErr result (λ e. IsWhyUnended ran.last e.trouble (written_of ran.history.warehouse.book) (W.contents output.old) (W.contents output.new)) }
+    ensures fault { IfErr result (λ e. IsWhyUnended ran.last e.trouble) }
     ensures left { IfErr result (λ e. LeavesRun ran.is_whole e.trouble (ending_of ran.history.warehouse.book) (L.contents ran.journal) (option_map L.contents e.file)) }
 {
     let Ran {
@@ -99,24 +80,7 @@ pub(crate) fn end_run<L: LogFile + Drop, W: Write, P: Planner, V: Drop>(
             return Err(Unattended { trouble, file });
         }
     }
-    let text = match text_of(alloc, warehouse) {
-        Ok(text) => text,
-        Err(trouble) => {
-            drop(history);
-            let file = Some(journal);
-            return Err(Unattended { trouble, file });
-        }
-    };
     drop(history);
-    let written = write_text(output, text.as_slice());
-    drop(text);
-    match written {
-        Ok(()) => {}
-        Err(trouble) => {
-            let file = Some(journal);
-            return Err(Unattended { trouble, file });
-        }
-    }
     match last {
         Ok(()) => Ok(journal),
         Err(fault) => {

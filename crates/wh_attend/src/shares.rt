@@ -2,11 +2,13 @@
 
 ghost use Rattle.std.specs.Prelude.{◌≡◌, ◌≤◌, length};
 ghost use Rattle.wh_desk.specs.Lists.{entries_of};
-ghost use Rattle.wh_attend.specs.Guests.{share_of, sharers};
+ghost use Rattle.wh_attend.specs.Guests.{counts_before, entries_told, share_of, sharers};
 ghost use Rattle.wh_attend.specs.Shares.{IsPacingOf, worker_share};
 
 use std::time::Duration;
+use wh_continue::Start;
 use wh_event::Entry;
+use wh_front::Count;
 use wh_host::Pacing;
 use wh_options::ServeOptions;
 
@@ -62,6 +64,28 @@ pub(crate) fn had_by(history: &[Entry], caller: u32) -> u64
         }
     }
     count
+}
+
+/// How many entries each caller had in the logs before, as the front of the log tells it; none where it has no front.
+pub(crate) fn counts_before(start: &Start) -> &[Count]
+    ensures { result.now ≡ counts_before start.now.preface }
+{
+    match &start.preface {
+        Some(preface) => preface.head.counts.as_slice(),
+        None => &[],
+    }
+}
+
+/// How many of them are this caller's.
+pub(crate) fn entries_told(counts: &[Count], caller: u32) -> u64
+    ensures { result ≡ entries_told counts.now caller }
+{
+    for count in counts {
+        if count.caller == caller {
+            return count.entries;
+        }
+    }
+    0
 }
 
 /// How the worker for agents and clock goes on, where the options name one: until the service ends, and behind what it had in a

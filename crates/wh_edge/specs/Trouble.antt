@@ -6,6 +6,7 @@ use Rattle.wh_grid.specs.declared.fault.MapKind.{MapKind}
 use Rattle.wh_grid.specs.declared.fault.MapKind.TheVariants as map
 use Rattle.wh_points.specs.declared.fault.FaultKind.{FaultKind}
 use Rattle.wh_points.specs.declared.fault.FaultKind.TheVariants as point
+use Rattle.wh_restore.specs.Texts.{reason_text}
 use Rattle.wh_edge.specs.declared.trouble.Trouble.{Trouble}
 use Rattle.wh_edge.specs.declared.trouble.Trouble.TheVariants as trouble
 use Rattle.wh_edge.specs.declared.trouble.Status.{Status}
@@ -54,6 +55,8 @@ told trouble.Unwritten = codes "X3"
 told trouble.NoThread = codes "E93"
 told trouble.Differs = codes "E95"
 told (trouble.Log number) = placed (codes "L1") number
+told (trouble.Front reason number) = placed (codes "L1") number
+told (trouble.Forgotten first) = codes "L2 " ++ decimal first
 told trouble.Unkept = codes "X5"
 told (trouble.NoPipes client) = codes "X5 " ++ decimal client
 told trouble.Unshown = codes "X6"
@@ -65,9 +68,14 @@ told (trouble.NotParked agent) = codes "H1 " ++ decimal agent
 told trouble.MayFollow = codes "V4"
 told trouble.NoMemory = codes "E90"
 
--- the line on standard error
+-- the line of the reason that goes before, where the front of a log is refused
+abbrev pub reason_line : Trouble → List ℕ
+reason_line (trouble.Front reason number) = reason_text reason ++ 10 ∷ []
+reason_line t = []
+
+-- what stands on standard error
 unfoldable pub trouble_text : Trouble → List ℕ
-trouble_text t = codes "refused " ++ told t ++ 10 ∷ []
+trouble_text t = reason_line t ++ codes "refused " ++ told t ++ 10 ∷ []
 
 -- the exit statuses
 abbrev pub number_of_status : Status → ℕ
@@ -93,6 +101,8 @@ status_of trouble.Unwritten = status.Failed
 status_of trouble.NoThread = status.Failed
 status_of trouble.Differs = status.Failed
 status_of (trouble.Log number) = status.Refused
+status_of (trouble.Front reason number) = status.Refused
+status_of (trouble.Forgotten first) = status.Refused
 status_of trouble.Unkept = status.Failed
 status_of (trouble.NoPipes client) = status.Failed
 status_of trouble.Unshown = status.Failed

@@ -1,7 +1,7 @@
 //! Why the program stops, its text and its exit status.
 ghost use Rattle.std.specs.Prelude.{◌≡◌, ◌≤◌, ◌+◌, ◌++◌, ◌^◌, ◌<◌, [], ◌∷◌, length, decimal, codes};
 ghost use Rattle.arrayvec.specs.ArrayVec.{array_vec_len};
-ghost use Rattle.wh_edge.specs.Trouble.{code_of_line, code_of_map, code_of_point, number_of_status, status_of, trouble_text};
+ghost use Rattle.wh_edge.specs.Trouble.{code_of_line, code_of_map, code_of_point, number_of_status, reason_line, status_of, trouble_text};
 ghost use Rattle.wh_edge.specs.declared.trouble.Trouble.TheVariants.{NoMemory};
 
 use crate::work::ScriptPlace;
@@ -10,6 +10,7 @@ use std::alloc::{AllocError, AllocFailed};
 use wh_event::{LineFault, put, put_number};
 use wh_grid::MapKind;
 use wh_points::FaultKind;
+use wh_restore::Reason;
 
 /// How the program ended.
 #[derive(Clone, Copy, Debug, PartialEq, Eq)]
@@ -70,6 +71,10 @@ pub enum Trouble {
     Differs,
     /// The log file has this line first with which no log of a run of this site goes on.
     Log { line: u64 },
+    /// The front of the log file has this line first with which it tells no state that a run of this site goes on from, and why.
+    Front { reason: Reason, line: u64 },
+    /// The log file tells no entries before this one, and earlier ones were asked for.
+    Forgotten { first: u64 },
     /// The log file cannot be opened, read, written or synced, or another program has it.
     Unkept,
     /// A running client's two pipes are not there, are no pipes, or are another client's.
@@ -138,7 +143,7 @@ fn code_of_line(kind: LineFault) -> &'static [u8]
 
 /// Writes a code and the line at which it is met.
 fn put_place(line: &mut ArrayVec<u8, 64>, code: &[u8], number: u64)
-    requires old { length line.old.items ≤ 8 }
+    requires old { length line.old.items ≤ 31 }
     requires code { length code.now ≤ 3 }
     ensures text { line.new.items ≡ line.old.items ++ code.now ++ codes " line " ++ decimal number }
     ensures short { length line.new.items ≤ 63 }
@@ -164,12 +169,27 @@ impl<T: Drop> From<AllocFailed<T>> for Trouble {
 }
 
 impl Trouble {
-    /// The line that tells of it, with its line feed.
+    /// The line of the reason that goes before, where there is one.
+    fn reason(&self) -> ArrayVec<u8, 64>
+        ensures text { result.items ≡ reason_line self.now }
+        ensures short { length result.items ≤ 23 }
+    {
+        match *self {
+            Trouble::Front { reason, .. } => {
+                let mut line = reason.text();
+                put(&mut line, b"\n");
+                line
+            }
+            _ => ArrayVec::new(),
+        }
+    }
+
+    /// The line that tells of it, with its line feed; before it a line with the reason, where the front of a log is refused.
     #[tactic(auto, unfolding(crate::specs::Trouble::trouble_text))]
     pub fn text(&self) -> ArrayVec<u8, 64>
         ensures { result.items ≡ trouble_text self.now }
     {
-        let mut line = ArrayVec::new();
+        let mut line = self.reason();
         put(&mut line, b"refused ");
         match *self {
             Trouble::Map(fault) => put_place(&mut line, code_of_map(fault.kind), fault.line),
@@ -185,6 +205,8 @@ impl Trouble {
             Trouble::NoThread => put(&mut line, b"E93"),
             Trouble::Differs => put(&mut line, b"E95"),
             Trouble::Log { line: number } => put_place(&mut line, b"L1", number),
+            Trouble::Front { line: number, .. } => put_place(&mut line, b"L1", number),
+            Trouble::Forgotten { first } => put_number(&mut line, b"L2 ", first),
             Trouble::Unkept => put(&mut line, b"X5"),
             Trouble::NoPipes { client } => put_number(&mut line, b"X5 ", u64::from(client)),
             Trouble::Unshown => put(&mut line, b"X6"),
@@ -208,7 +230,9 @@ impl Trouble {
             Trouble::Map(_) | Trouble::Points(_) | Trouble::Script(_) => Status::Refused,
             Trouble::Short { .. } | Trouble::Raced { .. } => Status::Refused,
             Trouble::SectionTooLong | Trouble::TooManyWorkers => Status::Refused,
-            Trouble::Log { .. } | Trouble::MayFollow => Status::Refused,
+            Trouble::Log { .. } | Trouble::Front { .. } | Trouble::Forgotten { .. } =>
+                Status::Refused,
+            Trouble::MayFollow => Status::Refused,
             Trouble::LostLog | Trouble::Unmanned | Trouble::NotParked { .. } => Status::Refused,
             Trouble::Broken | Trouble::Endless | Trouble::Unwritten => Status::Failed,
             Trouble::NoThread | Trouble::Differs | Trouble::OwnOutput => Status::Failed,

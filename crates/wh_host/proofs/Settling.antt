@@ -1,6 +1,7 @@
 -- What the journal holds of the history that the clients left.
-use Rattle.std.proofs.Common.{◌≡◌, ℕ, zero, suc, ◌≤◌, List, [], ◌∷◌, ◌++◌, length, take, drop, refl, ap, sym, ◌∙◌, inl, arith, subst, Option, None, Some, Bool, true, false}
+use Rattle.std.proofs.Common.{◌≡◌, ℕ, zero, suc, ◌≤◌, ◌-◌, List, [], ◌∷◌, ◌++◌, length, take, drop, refl, ap, sym, ◌∙◌, inl, arith, subst, Option, None, Some, Bool, true, false}
 use Rattle.std.proofs.lemmas.List.{take_all, length-append}
+use Rattle.std.proofs.Math.Seq.{take-append_seam}
 use Rattle.std.proofs.lemmas.Option.{same_Some}
 use Rattle.std.specs.Io.KnownBytes.{Appends}
 use mathlib.Core.List.{IsPrefix}
@@ -13,7 +14,6 @@ use Rattle.wh_replay.proofs.Appended.{lines_append}
 use Rattle.wh_scribe.specs.Keeping.{Holds}
 use Rattle.wh_scribe.proofs.Keeping.{same_take}
 use Rattle.wh_journal.specs.Surviving.{HoldsLog}
-use Rattle.wh_journal.proofs.Surviving.{begun_grown}
 use Rattle.wh_host.specs.Runs.{IsJournalOf, first_lines}
 
 rest_behind : {A : Type 0} (xs rest : List A) (k : ℕ) → k ≤ length xs → drop k (xs ++ rest) ≡ drop k xs ++ rest
@@ -61,7 +61,15 @@ journal_is start now synced known history written safe failed is_whole begins wi
       safe = λ is. (let w = whole is in all_of start synced known history safe begins (omega (arith, safe_within, within)) w.2 outlives);
     }
 
--- a journal that is the book's log has the lines of its entries behind the first two lines
+pub front_before : (head more : List ℕ) → take (length (head ++ more) - length more) (head ++ more) ≡ head
+front_before head more =
+    let all : length (head ++ more) - length more ≡ length head = omega (arith, length-append head more) in
+    ap (λ (n : ℕ). take n (head ++ more)) all ∙ take-append_seam head more
+
+-- a journal that is the book's log has the lines of its entries behind what stands before them
 pub log_begun : (journal : Option (List ℕ)) (book : Seen) → HoldsLog journal book → Appends (first_lines journal book) journal (lines_for book.history)
 log_begun None book h = tt
-log_begun (Some text) book h = same_Some _ _ h ∙ begun_grown (record { clock = book.opening.clock; slots = book.opening.slots; entries = [] }) book.history
+log_begun (Some text) book h =
+    let text_is : text ≡ h.head ++ lines_for book.history = same_Some _ _ h.journal_is in
+    let first : take (length text - length (lines_for book.history)) text ≡ h.head = ap (λ (t : List ℕ). take (length t - length (lines_for book.history)) t) text_is ∙ front_before h.head (lines_for book.history) in
+    text_is ∙ ap (λ (t : List ℕ). t ++ lines_for book.history) (sym first)

@@ -1,5 +1,5 @@
 -- What clients did from where a warehouse stood, and what the journal holds of it.
-use Rattle.std.specs.Prelude.{◌≡◌, ◌≢◌, ℕ, ◌≤◌, ◌++◌, Bool, true, List, [], length, take, All, Option, Some, option_map, slice_get}
+use Rattle.std.specs.Prelude.{◌≡◌, ◌≢◌, ℕ, ◌≤◌, ◌-◌, ◌++◌, Bool, true, List, [], length, take, All, Option, Some, option_map, slice_get}
 use mathlib.Core.List.{IsPrefix}
 use Rattle.std.specs.Io.KnownBytes.{Appends}
 use Rattle.wh_grid.specs.Grids.{Floor}
@@ -9,9 +9,6 @@ use Rattle.wh_desk.specs.Pasts.{Origin}
 use Rattle.wh_desk.specs.Lists.{Received, entries_of}
 use Rattle.wh_desk.specs.Calls.{InOrder}
 use Rattle.wh_desk.specs.Drafts.{Seen}
-use Rattle.wh_words.specs.Lines.{text_of as lines_text}
-use Rattle.wh_log.specs.declared.version.Version.TheVariants.{Two}
-use Rattle.wh_log.specs.Torn.{begun_lines}
 use Rattle.wh_journal.specs.Journals.{lines_for}
 use Rattle.wh_crew.specs.Work.{command_of}
 use Rattle.wh_scribe.specs.Keeping.{Holds}
@@ -44,9 +41,9 @@ pub record ServedFrom {R W X : Type 0} (fits : X → Floor → Bool) (count : X 
   pub leaves : Leaves fits count text remaining contents origin journal (callers_of clients pace) clients passes pace history state connections worker
   pub allowed : (i : ℕ) (client : Client X) → slice_get clients i ≡ Some client → KeepsTo client.allowance (entries_of earlier i) (entries_of history i)
 
--- the first two lines of the book's log, of a file that tells its bytes
+-- what stands in a file that tells its bytes before the lines of the book's entries, with which it ends
 abbrev pub first_lines : Option (List ℕ) → Seen → Option (List ℕ)
-first_lines file book = option_map (λ _. lines_text (begun_lines Two (record { clock = book.opening.clock; slots = book.opening.slots; entries = [] }))) file
+first_lines file book = option_map (λ text. take (length text - length (lines_for book.history)) text) file
 
 -- A journal holds now, behind what it held at its start, the lines of the first n entries of the history, and maybe, where it
 -- has failed, a front of the lines of the next ones. Where it is told to be whole, these are the lines of all its entries, and they outlive a kill.

@@ -8,7 +8,7 @@ use Rattle.wh_desk.specs.Lists.{Received}
 use Rattle.wh_replay.specs.Answers.{text_of}
 use Rattle.wh_replay.specs.Scripts.{WritesFront}
 use Rattle.wh_replay.specs.declared.script.ReplayFault.TheVariants.{Unwritten}
-use Rattle.wh_serve.specs.Texts.{greeting_text}
+use Rattle.wh_serve.specs.Texts.{entries_in_all, greeting_text}
 use Rattle.wh_serve.specs.Sessions.{ServesAll, Stops}
 use Rattle.wh_serve.specs.declared.allowance.Allowance.{Allowance}
 use Rattle.wh_serve.specs.declared.doors.Tag.{Tag}
@@ -23,12 +23,12 @@ abbrev pub Fared : {X : Type 0} → Allowance → ℕ → (X → Floor → Bool)
 Fared may cells fits count grid text tag (Ok served) before after old spares new rest had has = ServesAll may cells fits count grid text tag before after old spares new rest had has served.replies served.end
 Fared may cells fits count grid text tag (Err fault) before after old spares new rest had has = Stops may cells fits count grid text tag fault before after old spares new rest had has
 
--- The first line told how many entries the client has, and the tag, and then it was served from the reader's start. Remaining and contents are
+-- The first line told how many entries the client has in all, and the tag, and then it was served from the reader's start. Remaining and contents are
 -- the bytes that a reader and a writer tell.
 pub record ServedOver {R W X : Type 0} (may : Allowance) (cells : ℕ) (fits : X → Floor → Bool) (count : X → ℕ) (grid : Floor) (text : ℕ × Entry → List ℕ) (remaining : R → Option (List ℕ)) (contents : W → Option (List ℕ))
     (reader : R) (writer : W) (tag : Tag) (outcome : Result Served ServeFault) (left : W) (had : Received) (spares : List X) (has : Received) (rest : List X) : Type 0 where
   pub told : Option (List ℕ)
-  pub first_line : Appends (contents writer) told (text_of (greeting_text (length had.list) tag ∷ []))
+  pub first_line : Appends (contents writer) told (text_of (greeting_text (entries_in_all may.before (length had.list)) tag ∷ []))
   pub before : Input
   pub nothing_yet : before.waiting ≡ []
   pub source_is : before.source ≡ remaining reader
@@ -36,9 +36,9 @@ pub record ServedOver {R W X : Type 0} (may : Allowance) (cells : ℕ) (fits : X
   pub fared : Fared may cells fits count grid text tag outcome before after had spares has rest told (contents left)
 
 -- the first line could not be written to its end, and the client was served nothing
-pub record Unreached {W X : Type 0} (contents : W → Option (List ℕ)) (writer : W) (tag : Tag) (outcome : Result Served ServeFault) (left : W) (had : Received) (spares : List X) (has : Received) (rest : List X) : Type 0 where
+pub record Unreached {W X : Type 0} (may : Allowance) (contents : W → Option (List ℕ)) (writer : W) (tag : Tag) (outcome : Result Served ServeFault) (left : W) (had : Received) (spares : List X) (has : Received) (rest : List X) : Type 0 where
   pub fault : outcome ≡ Err (Cut Unwritten)
-  pub front : WritesFront (contents writer) (contents left) (text_of (greeting_text (length had.list) tag ∷ []))
+  pub front : WritesFront (contents writer) (contents left) (text_of (greeting_text (entries_in_all may.before (length had.list)) tag ∷ []))
   pub same : has ≡ had
   pub same_spares : rest ≡ spares
 
@@ -48,7 +48,7 @@ abbrev pub Session : {R W X : Type 0} → Allowance → ℕ → (X → Floor →
     → R → W → Tag → Result Served ServeFault → W → Received → List X → Received → List X → Type 0
 Session may cells fits count grid text remaining contents reader writer tag outcome left had spares has rest =
     ServedOver may cells fits count grid text remaining contents reader writer tag outcome left had spares has rest
-    ⊎ Unreached contents writer tag outcome left had spares has rest
+    ⊎ Unreached may contents writer tag outcome left had spares has rest
 
 -- a connection that is over, and what the pass and the spares were then
 pub record Visit (R W X : Type 0) : Type 0 where

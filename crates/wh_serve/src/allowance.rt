@@ -45,9 +45,13 @@ impl Rights {
     }
 }
 
-/// What a client may do: the commands that it has a right to, and how many entries of the history may be its own.
+/// What a client may do.
 #[derive(Clone, Copy, Debug, PartialEq, Eq)]
 pub struct Allowance {
+    /// The commands that it has a right to.
     pub rights: Rights,
+    /// How many entries of the history may be its own.
     pub entries: u64,
+    /// How many entries it had in logs before this one: they are told, and do not count here.
+    pub before: u64,
 }

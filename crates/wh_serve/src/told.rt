@@ -5,7 +5,7 @@ ghost use Rattle.std.specs.Io.KnownBytes.{Appends, Keeps};
 ghost use Rattle.wh_lines.specs.Text.{short_line};
 ghost use Rattle.wh_replay.specs.Answers.{text_of};
 ghost use Rattle.wh_replay.specs.Scripts.{WritesFront};
-ghost use Rattle.wh_serve.specs.Texts.{InEach, fault_text, greeting_text, receipt_text, without_text};
+ghost use Rattle.wh_serve.specs.Texts.{InEach, entries_in_all, fault_text, greeting_text, receipt_text, without_text};
 ghost use Rattle.wh_serve.specs.Outcomes.{Gives, answers, line_text, stop_text};
 ghost use Rattle.wh_serve.specs.Sayings.{asked, said};
 ghost use Rattle.wh_serve.specs.Losses.{Loses};
@@ -177,6 +177,13 @@ fn write_line<W: Write>(writer: &mut W, reply: &[u8]) -> Result<(), WriteFault>
         },
         Err(fault) => Err(fault),
     }
+}
+
+/// How many entries a client has in this log and those before it, as far as 64 bits count.
+pub(crate) fn entries_in_all(before: u64, own: u64) -> u64
+    ensures { result ≡ entries_in_all before own }
+{
+    before.saturating_add(own)
 }
 
 /// Writes how many entries a client has and the tag of its connection, with a line feed.

@@ -8,7 +8,7 @@ use crate::allowance::Allowance;
 use crate::client::serve_client;
 use crate::doors::{Connection, Doors};
 use crate::served::{ServeFault, Served};
-use crate::told::write_greeting;
+use crate::told::{entries_in_all, write_greeting};
 use std::alloc::Global;
 use std::io::{Read, Write};
 use std::sync::Wait;
@@ -26,7 +26,7 @@ struct Visited<W> {
     writer: W,
 }
 
-/// Serves one connection: its first line is how many entries the client has, so that a client that comes again knows whether its
+/// Serves one connection: its first line is how many entries the client has in all, so that a client that comes again knows whether its
 /// last command stands, and the tag, at which it begins.
 fn serve_connection<
     N: DeskName,
@@ -58,7 +58,8 @@ fn serve_connection<
         mut writer,
         tag,
     } = connection;
-    match write_greeting(&mut writer, pass.len(), tag) {
+    let entries = entries_in_all(may.before, pass.len());
+    match write_greeting(&mut writer, entries, tag) {
         Ok(()) => {
             let mut lines = Lines::new(reader);
             let outcome = serve_client(

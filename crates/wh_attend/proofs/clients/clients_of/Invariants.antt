@@ -10,5 +10,5 @@ abbrev pub invariant-loop-number : goal.invariant-loop-number
 invariant-loop-number g l = record {
   seat : Belongs l.seat (arc_value l.bank);
   size : length l.clients.items ≡ l.number;
-  each : AllAt (IsClient (goal.F-post g l.make) l.options (arc_value l.grid) (arc_value l.bank) l.history) l.clients.items;
+  each : AllAt (IsClient (goal.F-post g l.make) l.options (arc_value l.grid) (arc_value l.bank) l.history l.counts) l.clients.items;
 }

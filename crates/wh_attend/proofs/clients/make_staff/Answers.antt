@@ -9,6 +9,6 @@ returns-in-Ok-clients_of-clause-ok g c = record {
   bank = arc_value c.in_ok-bank.bank;
   total = c.in_ok-bank.ensures.total;
   planners_are = subst (λ (ns : List ℕ). AreSeated (goal.F-post g c.args.make.now) c.args.options.now.fleet (arc_value c.args.grid.now) (arc_value c.in_ok-bank.bank) ns c.in-Ok.planners.items) c.slots-slots.ensures.value c.in-Ok.ensures.members;
-  clients_are = clients_as _ _ _ _ _ _ _ _ c.history-history.ensures.value c.in-Ok-clients_of.ensures.count c.places_beside-places.ensures.few
+  clients_are = clients_as _ _ _ _ _ _ _ _ _ _ c.history-history.ensures.value c.counts_before-counts.ensures c.in-Ok-clients_of.ensures.count c.places_beside-places.ensures.few
       c.places_beside-places.ensures.callers c.places_beside-places.ensures.named c.in-Ok-clients_of.ensures.each;
 }

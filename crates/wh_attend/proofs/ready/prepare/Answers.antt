@@ -3,7 +3,12 @@ use Rattle.wh_points.specs.Points.{Site}
 use Rattle.wh_service.proofs.Lasting.{kept_at}
 use Rattle.wh_attend.proofs.Attended.{staffed_on, stands_as}
 use Rattle.wh_attend.proofs.Callers.{callers_few}
+use Rattle.wh_service.proofs.Lasting.{start_of_file}
 use Rattle.wh_attend.proofs.ready.prepare.Goals as goal
+
+pub returns-in-None-clause-starts : goal.returns-in-None-clause-starts
+returns-in-None-clause-starts g c =
+    start_of_file c.args.options.now.fleet c.in-Ok.kept.setting (g.L.Journal.contents c.args.file.now) (g.L.Journal.contents c.start_aside.new.file) c.in-Ok-start_aside.started.0 c.in-Ok-start_aside.ensures.ok c.in-Ok-start_aside.ensures.same
 
 pub make_staff-requires-clause-callers : goal.make_staff-requires-clause-callers
 make_staff-requires-clause-callers g c κs within =
@@ -61,7 +66,7 @@ returns-in-Some-clause-fault g c =
           stands = stands_as _ _ _ _ c.as_slice-bytes.ensures.value c.in-Ok-start_aside.ensures.stands;
           starts = c.in-Ok-start_aside.ensures.ok;
           has_log = c.in-Ok-start_aside.ensures.has_log;
-          staffed = staffed_on _ _ _ _ _ _ _ _ (c.in-Ok-try_clone.ensures ∙ c.shared_grid.ensures) c.in-Ok-make_staff.ensures.ok;
+          staffed = staffed_on _ _ _ _ _ _ _ _ _ (c.in-Ok-try_clone.ensures ∙ c.shared_grid.ensures) c.in-Ok-make_staff.ensures.ok;
         };
       },
     )))
@@ -75,6 +80,6 @@ returns-in-None-clause-ok g c = (
     stands = stands_as _ _ _ _ c.as_slice-bytes.ensures.value c.in-Ok-start_aside.ensures.stands;
     starts = c.in-Ok-start_aside.ensures.ok;
     has_log = c.in-Ok-start_aside.ensures.has_log;
-    staffed = staffed_on _ _ _ _ _ _ _ _ (c.in-Ok-try_clone.ensures ∙ c.shared_grid.ensures) c.in-Ok-make_staff.ensures.ok;
+    staffed = staffed_on _ _ _ _ _ _ _ _ _ (c.in-Ok-try_clone.ensures ∙ c.shared_grid.ensures) c.in-Ok-make_staff.ensures.ok;
   },
 )
