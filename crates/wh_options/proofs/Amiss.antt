@@ -7,7 +7,7 @@ use Rattle.wh_options.specs.Setting.{IsLine, Setting, Text, value_of, values_of}
 use Rattle.wh_options.specs.Options.{EachGives, IsAmiss, IsClashing, IsClientless, IsLacking, LacksAny, ServeLacks, Way, WordsGive}
 use Rattle.wh_options.specs.Reads.{IsTold}
 use Rattle.wh_options.specs.declared.chosen.Options.{Options}
-use Rattle.wh_options.specs.declared.chosen.Options.TheVariants.{Check, Replay, Verify, Live, Serve}
+use Rattle.wh_options.specs.declared.chosen.Options.TheVariants.{Check, Replay, Verify, Live, Serve, State}
 use Rattle.wh_options.proofs.Names.{Named, gives_named, other_word, says_named}
 use Rattle.wh_options.proofs.Menus.{Mistaken, told_as}
 use Rattle.wh_options.proofs.Once.{all_agree, one_line}
@@ -42,6 +42,9 @@ clash_never name xs (Live o) gives (inr (inr clash)) = gives.2 clash.1
 clash_never name xs (Serve o) gives (inl clash) = gives.1.agree clash.2
 clash_never name xs (Serve o) gives (inr (inl clash)) = other_than name (codes "serve") (codes "replay") refl gives.0 clash.0
 clash_never name xs (Serve o) gives (inr (inr clash)) = other_than name (codes "serve") (codes "live") refl gives.0 clash.0
+clash_never name xs (State o) gives (inl clash) = other_than name (codes "state") (codes "serve") refl gives.0 clash.0
+clash_never name xs (State o) gives (inr (inl clash)) = other_than name (codes "state") (codes "replay") refl gives.0 clash.0
+clash_never name xs (State o) gives (inr (inr clash)) = other_than name (codes "state") (codes "live") refl gives.0 clash.0
 
 none_never : (name : Text) (xs : List Setting) (o : Options) → EachGives name xs o → IsClientless name (λ id. value_of id xs) (values_of (codes "client") xs) → ⊥
 none_never name xs (Check o) gives none = other_than name (codes "check") (codes "serve") refl gives.0 none.0
@@ -49,6 +52,7 @@ none_never name xs (Replay o) gives none = other_than name (codes "replay") (cod
 none_never name xs (Verify o) gives none = other_than name (codes "verify") (codes "serve") refl gives.0 none.0
 none_never name xs (Live o) gives none = other_than name (codes "live") (codes "serve") refl gives.0 none.0
 none_never name xs (Serve o) gives none = none.3 o.clients.items gives.1.clients
+none_never name xs (State o) gives none = other_than name (codes "state") (codes "serve") refl gives.0 none.0
 
 told_never : (kind : ErrorKind) (name : Text) (xs : List Setting) (o : Options) → EachGives name xs o → (LacksAny name (λ id. value_of id xs) → ⊥) → IsTold kind name (λ id. value_of id xs) (values_of (codes "client") xs) → ⊥
 told_never kind name xs o gives never (inl lacks) = never lacks.0
@@ -64,15 +68,18 @@ mistaken_never kind words a o gives =
 
 lacks_other : (name : Text) (given : Text → Option Text) → name ≡ codes "serve" → (ServeLacks given → ⊥) → LacksAny name given → ⊥
 lacks_other name given is never (inl lacks) = other_than name (codes "serve") (codes "replay") refl is lacks.0
-lacks_other name given is never (inr lacks) = never lacks.1
+lacks_other name given is never (inr (inl lacks)) = never lacks.1
+lacks_other name given is never (inr (inr lacks)) = other_than name (codes "serve") (codes "state") refl is lacks.0
 
 -- what lacks and what clashes are told apart, and so are clashes and texts that name no clients
 lacks_or_clashes : (name : Text) (given : Text → Option Text) (clients : List Text) → IsClashing name given clients → LacksAny name given → ⊥
 lacks_or_clashes name given clients (inl clash) lacks = lacks_other name given clash.0 clash.1 lacks
 lacks_or_clashes name given clients (inr (inl clash)) (inl lacks) = clash.1 lacks.1
-lacks_or_clashes name given clients (inr (inl clash)) (inr lacks) = other_than name (codes "replay") (codes "serve") refl clash.0 lacks.0
+lacks_or_clashes name given clients (inr (inl clash)) (inr (inl lacks)) = other_than name (codes "replay") (codes "serve") refl clash.0 lacks.0
+lacks_or_clashes name given clients (inr (inl clash)) (inr (inr lacks)) = other_than name (codes "replay") (codes "state") refl clash.0 lacks.0
 lacks_or_clashes name given clients (inr (inr clash)) (inl lacks) = other_than name (codes "live") (codes "replay") refl clash.0 lacks.0
-lacks_or_clashes name given clients (inr (inr clash)) (inr lacks) = other_than name (codes "live") (codes "serve") refl clash.0 lacks.0
+lacks_or_clashes name given clients (inr (inr clash)) (inr (inl lacks)) = other_than name (codes "live") (codes "serve") refl clash.0 lacks.0
+lacks_or_clashes name given clients (inr (inr clash)) (inr (inr lacks)) = other_than name (codes "live") (codes "state") refl clash.0 lacks.0
 
 clashes_or_none : (name : Text) (given : Text → Option Text) (clients : List Text) → IsClashing name given clients → IsClientless name given clients → ⊥
 clashes_or_none name given clients (inl clash) none = none.2 clash.2

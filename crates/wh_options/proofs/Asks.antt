@@ -17,7 +17,7 @@ use Rattle.wh_options.specs.Setting.{Text}
 use Rattle.wh_options.proofs.Shapes.{bytes_same}
 use Rattle.wh_options.proofs.Top.{stopped_walk}
 use Rattle.wh_options.proofs.Menus.{leaf_at}
-use Rattle.wh_options.proofs.Uses.{Enters, check_enters, live_enters, replay_enters, serve_enters, verify_enters}
+use Rattle.wh_options.proofs.Uses.{Enters, check_enters, live_enters, replay_enters, serve_enters, state_enters, verify_enters}
 use Rattle.wh_options.proofs.Exact.{either_true}
 
 -- ---- one of some words
@@ -31,14 +31,17 @@ one_of_two P a b word e p q = elim (either_true _ _ e) [
   ]
 ]
 
-one_of_five : (P : Text → Type 0) (a b c d e word : Text) → list_any (bytes_eq word) (a ∷ b ∷ c ∷ d ∷ e ∷ []) ≡ true → P a → P b → P c → P d → P e → P word
-one_of_five P a b c d e word is p q r s t = elim (either_true _ _ is) [
+one_of_six : (P : Text → Type 0) (a b c d e f word : Text) → list_any (bytes_eq word) (a ∷ b ∷ c ∷ d ∷ e ∷ f ∷ []) ≡ true → P a → P b → P c → P d → P e → P f → P word
+one_of_six P a b c d e f word is p q r s t u = elim (either_true _ _ is) [
   | inl at ↦ subst P (sym (bytes_same _ _ at)) p
-  | inr f ↦ elim (either_true _ _ f) [
+  | inr g ↦ elim (either_true _ _ g) [
     | inl at ↦ subst P (sym (bytes_same _ _ at)) q
-    | inr g ↦ elim (either_true _ _ g) [
+    | inr h ↦ elim (either_true _ _ h) [
       | inl at ↦ subst P (sym (bytes_same _ _ at)) r
-      | inr h ↦ one_of_two P d e word h s t
+      | inr i ↦ elim (either_true _ _ i) [
+        | inl at ↦ subst P (sym (bytes_same _ _ at)) s
+        | inr j ↦ one_of_two P e f word j t u
+      ]
     ]
   ]
 ]
@@ -105,6 +108,10 @@ serve_answers : (p t r : Choices) (q : OtherChoices) (after : List Text) → Ans
 unfolding clap_on_literals
 serve_answers p t r q after = record { help = refl; short_help = refl; version = refl; short_version = refl }
 
+state_answers : (p t r : Choices) (q : OtherChoices) (after : List Text) → AnswersAll (leaf_at 5 p t r q) after
+unfolding clap_on_literals
+state_answers p t r q after = record { help = refl; short_help = refl; version = refl; short_version = refl }
+
 -- ---- any front
 
 -- one answer to a flag, at the top and at each subcommand
@@ -115,16 +122,18 @@ pub record AnswersAt (k : ErrorKind) (p t r : Choices) (q : OtherChoices) (progr
   pub verify : LeafAnswers k (leaf_at 2 p t r q) after flag
   pub live : LeafAnswers k (leaf_at 3 p t r q) after flag
   pub serve : LeafAnswers k (leaf_at 4 p t r q) after flag
+  pub state : LeafAnswers k (leaf_at 5 p t r q) after flag
 
 named_answers : (k : ErrorKind) (p t r : Choices) (q : OtherChoices) (program : Text) (after : List Text) (flag name : Text) → AnswersAt k p t r q program after flag → list_any (bytes_eq name) subcommand_names ≡ true
     → Answers k p t r q program (name ∷ []) after flag
 named_answers k p t r q program after flag name a e =
-    one_of_five (λ n. Answers k p t r q program (n ∷ []) after flag) (codes "check") (codes "replay") (codes "verify") (codes "live") (codes "serve") name e
+    one_of_six (λ n. Answers k p t r q program (n ∷ []) after flag) (codes "check") (codes "replay") (codes "verify") (codes "live") (codes "serve") (codes "state") name e
     (below_fails (built (menu p t r q)) (codes "check") (leaf_at 0 p t r q) (flag ∷ after) k (check_enters p t r q) a.check)
     (below_fails (built (menu p t r q)) (codes "replay") (leaf_at 1 p t r q) (flag ∷ after) k (replay_enters p t r q) a.replay)
     (below_fails (built (menu p t r q)) (codes "verify") (leaf_at 2 p t r q) (flag ∷ after) k (verify_enters p t r q) a.verify)
     (below_fails (built (menu p t r q)) (codes "live") (leaf_at 3 p t r q) (flag ∷ after) k (live_enters p t r q) a.live)
     (below_fails (built (menu p t r q)) (codes "serve") (leaf_at 4 p t r q) (flag ∷ after) k (serve_enters p t r q) a.serve)
+    (below_fails (built (menu p t r q)) (codes "state") (leaf_at 5 p t r q) (flag ∷ after) k (state_enters p t r q) a.state)
 
 front_answers : (k : ErrorKind) (p t r : Choices) (q : OtherChoices) (program : Text) (after : List Text) (flag : Text) (front : List Text) → AnswersAt k p t r q program after flag → IsFront front → Answers k p t r q program front after flag
 front_answers k p t r q program after flag front a (inl none) = subst (λ f. Answers k p t r q program f after flag) (sym none) a.top
@@ -143,10 +152,11 @@ menu_helps p t r q words asks =
     let verify = verify_answers p t r q asks.after in
     let live = live_answers p t r q asks.after in
     let serve = serve_answers p t r q asks.after in
+    let state = state_answers p t r q asks.after in
     subst (λ ws. fault_of (menu p t r q) ws ≡ DisplayHelp ∷ []) (sym asks.words_are)
     (flag_answers DisplayHelp p t r q asks.program asks.after (codes "--help") (codes "-h") asks.flag asks.front
-    (record { top = top.0; check = check.help; replay = replay.help; verify = verify.help; live = live.help; serve = serve.help })
-    (record { top = top.1; check = check.short_help; replay = replay.short_help; verify = verify.short_help; live = live.short_help; serve = serve.short_help })
+    (record { top = top.0; check = check.help; replay = replay.help; verify = verify.help; live = live.help; serve = serve.help; state = state.help })
+    (record { top = top.1; check = check.short_help; replay = replay.short_help; verify = verify.short_help; live = live.short_help; serve = serve.short_help; state = state.short_help })
     asks.is_flag asks.is_front)
 
 menu_tells_version : (p t r : Choices) (q : OtherChoices) (words : List Text) → AsksBy version_flags words → fault_of (menu p t r q) words ≡ DisplayVersion ∷ []
@@ -157,10 +167,11 @@ menu_tells_version p t r q words asks =
     let verify = verify_answers p t r q asks.after in
     let live = live_answers p t r q asks.after in
     let serve = serve_answers p t r q asks.after in
+    let state = state_answers p t r q asks.after in
     subst (λ ws. fault_of (menu p t r q) ws ≡ DisplayVersion ∷ []) (sym asks.words_are)
     (flag_answers DisplayVersion p t r q asks.program asks.after (codes "--version") (codes "-V") asks.flag asks.front
-    (record { top = top.0; check = check.version; replay = replay.version; verify = verify.version; live = live.version; serve = serve.version })
-    (record { top = top.1; check = check.short_version; replay = replay.short_version; verify = verify.short_version; live = live.short_version; serve = serve.short_version })
+    (record { top = top.0; check = check.version; replay = replay.version; verify = verify.version; live = live.version; serve = serve.version; state = state.version })
+    (record { top = top.1; check = check.short_version; replay = replay.short_version; verify = verify.short_version; live = live.short_version; serve = serve.short_version; state = state.short_version })
     asks.is_flag asks.is_front)
 
 -- words that ask for help are answered with it

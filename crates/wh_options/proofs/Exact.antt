@@ -14,10 +14,10 @@ use Rattle.clap.specs.Faults.{check_fault, fault_of}
 use Rattle.clap.specs.Simple.{App, Shape, built, filled}
 use Rattle.clap.specs.declared.builder.value_parser.ValueParser.TheVariants as vp
 use Rattle.wh_options.specs.Setting.{IsInPlace, IsLine, Setting, has_some, is_switch, may_repeat, single_names, spelled, value_of}
-use Rattle.wh_options.specs.Options.{EachGives, EachSays, GivesFleet, GivesFile, GivesHomes, GivesNumber, GivesPlanner, GivesReplay, GivesReplies, GivesRule, GivesTail, GivesLive, GivesVerify, MayGive, IsWritten, SaysServe, WordsGive, ends_text, live_names, log_of, planner_text, replay_names, replies_text, rule_names, serve_names, tail_text, verify_names}
+use Rattle.wh_options.specs.Options.{EachGives, EachSays, GivesFleet, GivesFile, GivesHomes, GivesNumber, GivesPlanner, GivesReplay, GivesReplies, GivesRule, GivesTail, GivesLive, GivesVerify, MayGive, IsWritten, SaysServe, SaysState, WordsGive, ends_text, live_names, log_of, planner_text, replay_names, replies_text, rule_names, serve_names, state_names, tail_text, verify_names}
 use Rattle.wh_options.specs.Menu.{Choices, IsMenu, OtherChoices, choice_rule, ends_words, file_rule, many_rule, menu, number_rule, planner_words, replies_words, switch_rule, tail_words}
 use Rattle.wh_options.specs.declared.chosen.Options.{Options}
-use Rattle.wh_options.specs.declared.chosen.Options.TheVariants.{Check, Replay, Verify, Live, Serve}
+use Rattle.wh_options.specs.declared.chosen.Options.TheVariants.{Check, Replay, Verify, Live, Serve, State}
 use Rattle.wh_options.specs.declared.chosen.VerifyOptions.{VerifyOptions}
 use Rattle.wh_options.specs.declared.chosen.Fleet.{Fleet}
 use Rattle.wh_options.specs.declared.chosen.LiveOptions.{LiveOptions}
@@ -34,9 +34,9 @@ use Rattle.wh_options.proofs.Turns.{idle_at}
 use Rattle.wh_options.proofs.Words.{IsFine, self_same}
 use Rattle.wh_options.proofs.Singles.{choice_option, file_option, is_single, many_option, number_option, single_parts, switch_is}
 use Rattle.wh_options.proofs.Spells.{AllTaken, settings_fine}
-use Rattle.wh_options.proofs.Serving.{says_of_serve}
-use Rattle.wh_options.proofs.Menus.{MenuTexts, check_ruled, leaf_at, live_plain, menu_texts, replay_plain, serve_plain, verify_plain}
-use Rattle.wh_options.proofs.Uses.{IsValid, once_parts, all_apart, valid_taken, none_fresh, level_fine, Enters, top_fine, check_enters, replay_enters, verify_enters, live_enters, serve_enters}
+use Rattle.wh_options.proofs.Serving.{says_of_serve, says_of_state}
+use Rattle.wh_options.proofs.Menus.{MenuTexts, check_ruled, leaf_at, live_plain, menu_texts, replay_plain, serve_plain, state_plain, verify_plain}
+use Rattle.wh_options.proofs.Uses.{IsValid, once_parts, all_apart, valid_taken, none_fresh, level_fine, Enters, top_fine, check_enters, replay_enters, verify_enters, live_enters, serve_enters, state_enters}
 
 -- ---- the value of each setting
 
@@ -357,7 +357,23 @@ verify_valid p t r q settings o words gives x listed value = elim (either_true _
   | inl is ↦ valid_ends (leaf_at 2 p t r q) settings x q.verify_ends o.homes (bytes_same _ _ is) value refl words gives.ends
   | inr e ↦ elim (either_true _ _ e) [
     | inl is ↦ valid_switch (leaf_at 2 p t r q) x (codes "unended") (bytes_same _ _ is) refl refl refl refl refl value.1
-    | inr none ↦ absurd (true≢false (sym none))
+    | inr f ↦ elim (either_true _ _ f) [
+      | inl is ↦ valid_may (leaf_at 2 p t r q) settings x (codes "wlog") 3 3 o.wlog (bytes_same _ _ is) value refl refl refl refl (lit< tt) gives.wlog
+      | inr none ↦ absurd (true≢false (sym none))
+    ]
+  ]
+]
+
+state_valid : (p t r : Choices) (q : OtherChoices) (settings : List Setting) → texts q.state_ends.now ≡ ends_words → (says : SaysState settings)
+    → (x : Setting) → list_any (bytes_eq x.name) state_names ≡ true → IsGiven settings x → IsValid (leaf_at 5 p t r q) x
+state_valid p t r q settings words says x listed value = elim (either_true _ _ listed) [
+  | inl is ↦ valid_ends (leaf_at 5 p t r q) settings x q.state_ends says.homes (bytes_same _ _ is) value refl words says.ends
+  | inr e ↦ elim (either_true _ _ e) [
+    | inl is ↦ valid_file (leaf_at 5 p t r q) settings x (codes "log") says.kept (bytes_same _ _ is) value refl refl refl refl says.log
+    | inr f ↦ elim (either_true _ _ f) [
+      | inl is ↦ valid_may (leaf_at 5 p t r q) settings x (codes "after") 0 999999999 says.count (bytes_same _ _ is) value refl refl refl refl (lit< tt) says.after
+      | inr none ↦ absurd (true≢false (sym none))
+    ]
   ]
 ]
 
@@ -394,6 +410,13 @@ serve_fine p t r q words name settings planners replies ends is line says =
     line_fine p t r q words (codes "serve") name settings (leaf_at 4 p t r q) is (serve_enters p t r q) (serve_plain p t r q) (λ rows. refl)
     (valid_taken (leaf_at 4 p t r q) settings [] (serve_plain p t r q) refl valid (none_fresh settings) line.once) line
 
+state_fine : (p t r : Choices) (q : OtherChoices) (words : List Text) (name : Text) (settings : List Setting) → texts q.state_ends.now ≡ ends_words
+    → name ≡ codes "state" → IsLine words name settings → SaysState settings → fault_of (menu p t r q) words ≡ []
+state_fine p t r q words name settings ends is line says =
+    let valid = all_zip _ _ _ (state_valid p t r q settings ends says) settings says.only (each_given settings line.once line.spelling.in_place) in
+    line_fine p t r q words (codes "state") name settings (leaf_at 5 p t r q) is (state_enters p t r q) (state_plain p t r q) (λ rows. refl)
+    (valid_taken (leaf_at 5 p t r q) settings [] (state_plain p t r q) refl valid (none_fresh settings) line.once) line
+
 menu_fine : (p t r : Choices) (q : OtherChoices) (words : List Text) (name : Text) (settings : List Setting) (o : Options) → MenuTexts p t r q
     → IsLine words name settings → EachGives name settings o → fault_of (menu p t r q) words ≡ []
 menu_fine p t r q words name settings (Check o) are line gives =
@@ -410,13 +433,16 @@ menu_fine p t r q words name settings (Live o) are line gives =
     live_fine p t r q words name settings o are.live are.live_ends gives.0 line gives.1
 menu_fine p t r q words name settings (Serve o) are line gives =
     serve_fine p t r q words name settings are.serve are.told are.serve_ends gives.0 line (says_of_serve settings o gives.1)
+menu_fine p t r q words name settings (State o) are line gives =
+    state_fine p t r q words name settings are.state_ends gives.0 line (says_of_state settings o gives.1)
 
 -- also where the options do not go together
 menu_said : (p t r : Choices) (q : OtherChoices) (words : List Text) (name : Text) (settings : List Setting) → MenuTexts p t r q
     → IsLine words name settings → EachSays name settings → fault_of (menu p t r q) words ≡ []
 menu_said p t r q words name settings are line (inl said) = replay_fine p t r q words name settings said.1 are.planners are.tails are.replies are.replay_ends said.0 line said.2
 menu_said p t r q words name settings are line (inr (inl said)) = serve_fine p t r q words name settings are.serve are.told are.serve_ends said.0 line said.1
-menu_said p t r q words name settings are line (inr (inr said)) = live_fine p t r q words name settings said.1 are.live are.live_ends said.0 line said.2
+menu_said p t r q words name settings are line (inr (inr (inr said))) = state_fine p t r q words name settings are.state_ends said.0 line said.1
+menu_said p t r q words name settings are line (inr (inr (inl said))) = live_fine p t r q words name settings said.1 are.live are.live_ends said.0 line said.2
 
 -- words whose options each say something are not refused
 pub said_is_taken : (a : App) (words : List Text) (name : Text) (settings : List Setting) → IsMenu a → IsLine words name settings → EachSays name settings → fault_of a words ≡ []

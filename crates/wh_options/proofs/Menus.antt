@@ -7,16 +7,17 @@ use Rattle.clap.specs.Faults.{fault_of, is_simple_and_free, level_fault}
 use Rattle.clap.specs.Simple.{App, Shape, built, filled, help_rule, is_simple, label_of, new_shape, subcommand_of, version_rule}
 use Rattle.clap.specs.Walk.{Row, Rule, Text, action_of, answers_to, arg_by_long, first_of, nothing_held, rows_after, settled, texts, walk, has_long}
 use Rattle.wh_options.specs.Setting.{IsLine, IsSpelled, Setting, is_switch, may_repeat, single_names, value_of, values_of}
-use Rattle.wh_options.specs.Options.{BoundsPatient, GivesFleet, GivesLive, GivesRule, GivesServe, GivesVerify, HasOnly, LacksAny, Means, ReplayClashes, ReplayLacks, ServeClashes, ServeLacks, WordsGive, board_of, live_names, log_of, replay_names, rule_names, serve_names}
-use Rattle.wh_options.specs.Reads.{IsTold, Reads, ReadsFleet, ReadsLive, ReadsServe, clients_in, homes_of}
+use Rattle.wh_options.specs.Options.{BoundsPatient, GivesFleet, GivesLive, GivesRule, GivesServe, GivesState, GivesVerify, HasOnly, LacksAny, Means, ReplayClashes, ReplayLacks, ServeClashes, ServeLacks, WordsGive, board_of, live_names, log_of, replay_names, rule_names, serve_names, state_names}
+use Rattle.wh_options.specs.Reads.{IsTold, MayRead, Reads, ReadsFleet, ReadsLive, ReadsServe, clients_in, homes_of}
 use Rattle.wh_options.specs.Menu.{Choices, IsMenu, OtherChoices, choice_rule, ends_words, file_rule, many_rule, menu, number_rule, planner_words, replies_words, switch_rule, tail_words}
 use Rattle.clap.specs.declared.error.kind.ErrorKind.{ErrorKind}
 use Rattle.clap.specs.declared.builder.value_parser.ValueParser.TheVariants as vp
 use Rattle.wh_options.specs.declared.chosen.Options.{Options}
-use Rattle.wh_options.specs.declared.chosen.Options.TheVariants.{Check, Replay, Verify, Live, Serve}
+use Rattle.wh_options.specs.declared.chosen.Options.TheVariants.{Check, Replay, Verify, Live, Serve, State}
 use Rattle.wh_options.specs.declared.chosen.VerifyOptions.{VerifyOptions}
 use Rattle.wh_options.specs.declared.chosen.LiveOptions.{LiveOptions}
 use Rattle.wh_options.specs.declared.chosen.ServeOptions.{ServeOptions}
+use Rattle.wh_options.specs.declared.chosen.StateOptions.{StateOptions}
 use Rattle.wh_client.specs.Clients.{GiveClients}
 use Rattle.wh_options.specs.declared.chosen.Fleet.{Fleet}
 use Rattle.wh_options.proofs.Shapes.{find_in}
@@ -92,7 +93,7 @@ the_menu p t r q = record {
   no_settings = is_asking (built (menu p t r q)).top.rules asking;
   required = refl;
   helps = refl;
-  no_aliases = (refl, (refl, (refl, (refl, (refl, (refl, tt))))));
+  no_aliases = (refl, (refl, (refl, (refl, (refl, (refl, (refl, tt)))))));
 }
 
 pub menu_is_simple : (a : App) → IsMenu a → (is_simple_and_free a ≡ true) × (is_simple a ≡ true)
@@ -110,9 +111,9 @@ find_head p x xs a e = go (p x) e
 abbrev pub leaf_at : ℕ → Choices → Choices → Choices → OtherChoices → Shape
 leaf_at k p t r q = unwrap_or (slice_get (built (menu p t r q)).subs k) (new_shape [])
 
--- the shape is one of those of the five subcommands
+-- the shape is one of those of the six subcommands
 abbrev pub IsLeaf : Choices → Choices → Choices → OtherChoices → Shape → Type 0
-IsLeaf p t r q leaf = (leaf_at 0 p t r q ≡ leaf) ⊎ ((leaf_at 1 p t r q ≡ leaf) ⊎ ((leaf_at 2 p t r q ≡ leaf) ⊎ ((leaf_at 3 p t r q ≡ leaf) ⊎ (leaf_at 4 p t r q ≡ leaf))))
+IsLeaf p t r q leaf = (leaf_at 0 p t r q ≡ leaf) ⊎ ((leaf_at 1 p t r q ≡ leaf) ⊎ ((leaf_at 2 p t r q ≡ leaf) ⊎ ((leaf_at 3 p t r q ≡ leaf) ⊎ ((leaf_at 4 p t r q ≡ leaf) ⊎ (leaf_at 5 p t r q ≡ leaf)))))
 
 which_leaf : (p t r : Choices) (q : OtherChoices) (test : Shape → Bool) (leaf : Shape) → find test (built (menu p t r q)).subs ≡ Some leaf → bytes_eq leaf.name (codes "help") ≡ false → IsLeaf p t r q leaf
 which_leaf p t r q test leaf e not_help = elim (find_head test (leaf_at 0 p t r q) (drop 1 (built (menu p t r q)).subs) leaf e) [
@@ -124,12 +125,15 @@ which_leaf p t r q test leaf e not_help = elim (find_head test (leaf_at 0 p t r 
       | inr h ↦ elim (find_head test (leaf_at 3 p t r q) (drop 4 (built (menu p t r q)).subs) leaf h) [
         | inl a ↦ inr (inr (inr (inl a)))
         | inr i ↦ elim (find_head test (leaf_at 4 p t r q) (drop 5 (built (menu p t r q)).subs) leaf i) [
-          | inl a ↦ inr (inr (inr (inr a)))
-          | inr j ↦ elim (find_head test (leaf_at 5 p t r q) [] leaf j) [
-            | inl a ↦
-                let bad : true ≡ false = ap (λ (s : Shape). bytes_eq s.name (codes "help")) a ∙ not_help in
-                cc
-            | inr none ↦ cc
+          | inl a ↦ inr (inr (inr (inr (inl a))))
+          | inr j ↦ elim (find_head test (leaf_at 5 p t r q) (drop 6 (built (menu p t r q)).subs) leaf j) [
+            | inl a ↦ inr (inr (inr (inr (inr a))))
+            | inr k ↦ elim (find_head test (leaf_at 6 p t r q) [] leaf k) [
+              | inl a ↦
+                  let bad : true ≡ false = ap (λ (s : Shape). bytes_eq s.name (codes "help")) a ∙ not_help in
+                  cc
+              | inr none ↦ cc
+            ]
           ]
         ]
       ]
@@ -150,6 +154,7 @@ pub record MenuTexts (p t r : Choices) (q : OtherChoices) : Type 0 where
   pub verify_ends : texts q.verify_ends.now ≡ ends_words
   pub live_ends : texts q.live_ends.now ≡ ends_words
   pub serve_ends : texts q.serve_ends.now ≡ ends_words
+  pub state_ends : texts q.state_ends.now ≡ ends_words
 
 pub menu_texts : (a : App) (m : IsMenu a) → MenuTexts m.planners m.tails m.replies m.others
 menu_texts a m = record {
@@ -164,6 +169,7 @@ menu_texts a m = record {
   verify_ends = m.verify_ends;
   live_ends = m.live_ends;
   serve_ends = m.serve_ends;
+  state_ends = m.state_ends;
 }
 
 -- ---- what the settings mean
@@ -232,17 +238,27 @@ serve_fleet p t r q = record {
 pub lacks_as : (Lack : (Text → Option Text) → Type 0) (f g : Text → Option Text) → ((id : Text) → f id ≡ g id) → Lack f → Lack g
 lacks_as Lack f g same lacks = subst Lack (λ i id. same id i) lacks
 
-none_lacks : (name : Text) (given : Text → Option Text) → bytes_eq name (codes "replay") ≡ false → bytes_eq name (codes "serve") ≡ false → LacksAny name given → ⊥
-none_lacks name given no_replay no_serve (inl lacks) = other_word name (codes "replay") no_replay lacks.0
-none_lacks name given no_replay no_serve (inr lacks) = other_word name (codes "serve") no_serve lacks.0
+none_lacks : (name : Text) (given : Text → Option Text) → bytes_eq name (codes "replay") ≡ false → bytes_eq name (codes "serve") ≡ false → bytes_eq name (codes "state") ≡ false → LacksAny name given → ⊥
+none_lacks name given no_replay no_serve no_state (inl lacks) = other_word name (codes "replay") no_replay lacks.0
+none_lacks name given no_replay no_serve no_state (inr (inl lacks)) = other_word name (codes "serve") no_serve lacks.0
+none_lacks name given no_replay no_serve no_state (inr (inr lacks)) = other_word name (codes "state") no_state lacks.0
 
 replay_lacks : (given found : Text → Option Text) → ((id : Text) → found id ≡ given id) → (ReplayLacks found → ⊥) → LacksAny (codes "replay") given → ⊥
 replay_lacks given found same never (inl lacks) = never (lacks_as ReplayLacks given found (λ id. sym (same id)) lacks.1)
-replay_lacks given found same never (inr lacks) = other_word (codes "replay") (codes "serve") refl lacks.0
+replay_lacks given found same never (inr (inl lacks)) = other_word (codes "replay") (codes "serve") refl lacks.0
+replay_lacks given found same never (inr (inr lacks)) = other_word (codes "replay") (codes "state") refl lacks.0
 
 serve_lacks : (given found : Text → Option Text) → ((id : Text) → found id ≡ given id) → (ServeLacks found → ⊥) → LacksAny (codes "serve") given → ⊥
 serve_lacks given found same never (inl lacks) = other_word (codes "serve") (codes "replay") refl lacks.0
-serve_lacks given found same never (inr lacks) = never (lacks_as ServeLacks given found (λ id. sym (same id)) lacks.1)
+serve_lacks given found same never (inr (inl lacks)) = never (lacks_as ServeLacks given found (λ id. sym (same id)) lacks.1)
+serve_lacks given found same never (inr (inr lacks)) = other_word (codes "serve") (codes "state") refl lacks.0
+
+state_lacks : (given : Text → Option Text) (log : Text) → Some log ≡ given (codes "log") → LacksAny (codes "state") given → ⊥
+state_lacks given log is (inl lacks) = other_word (codes "state") (codes "replay") refl lacks.0
+state_lacks given log is (inr (inl lacks)) = other_word (codes "state") (codes "serve") refl lacks.0
+state_lacks given log is (inr (inr lacks)) =
+    let bad : Some log ≡ None = is ∙ lacks.1 in
+    cc
 
 option_plain : (r : Rule) → r.long ≡ Some r.id → r.aliases ≡ [] → r.index ≡ None → r.defaults ≡ [] → IsOption r → is_switch r.id ≡ false → IsPlainRule r
 option_plain r long aliases index defaults opt no_switch = record { long = long; aliases = aliases; index = index; defaults = defaults; kind = inl (opt, no_switch) }
@@ -277,34 +293,64 @@ pub check_ruled : (p t r : Choices) (q : OtherChoices) → IsRuled (leaf_at 0 p 
 check_ruled p t r q = ((choice_plain (codes "ends") q.check_ends refl, asking_plain), refl, (filled (choice_rule (codes "ends") q.check_ends), refl, refl, refl))
 
 pub verify_plain : (p t r : Choices) (q : OtherChoices) → ArePlain (leaf_at 2 p t r q).rules
-verify_plain p t r q = (choice_plain (codes "ends") q.verify_ends refl, (switch_plain (codes "unended") refl refl, asking_plain))
+verify_plain p t r q = (choice_plain (codes "ends") q.verify_ends refl, (switch_plain (codes "unended") refl refl, (number_plain (codes "wlog") 3 3 refl, asking_plain)))
 
 verify_given : (p t r : Choices) (q : OtherChoices) (rest : List Text) (o : VerifyOptions) (says : LeafSays (leaf_at 2 p t r q) rest) → texts q.verify_ends.now ≡ ends_words
     → (o.homes ≡ homes_of (first_of (codes "ends") (rows_after (leaf_at 2 p t r q).rules [] rest))) × (o.unended ≡ is_some (first_of (codes "unended") (rows_after (leaf_at 2 p t r q).rules [] rest)))
+    × MayRead (first_of (codes "wlog") (rows_after (leaf_at 2 p t r q).rules [] rest)) o.wlog
     → GivesVerify says.settings o
 verify_given p t r q rest o says words reads = record {
   only = only_names (leaf_at 2 p t r q).rules says.settings (verify_plain p t r q) says.taken;
   ends = ends_given (leaf_at 2 p t r q).rules says.settings o.homes says.taken q.verify_ends words (filled (choice_rule (codes "ends") q.verify_ends)) refl refl refl _ (says.first (codes "ends")) reads.0;
   unended = reads.1 ∙ ap is_some (says.first (codes "unended"));
+  wlog = may_given (leaf_at 2 p t r q).rules says.settings (codes "wlog") 3 3 o.wlog (lit< tt) says.taken (filled (number_rule (codes "wlog") 3 3)) refl refl refl
+      (first_of (codes "wlog") (rows_after (leaf_at 2 p t r q).rules [] rest)) (says.first (codes "wlog")) reads.2;
+}
+
+pub state_plain : (p t r : Choices) (q : OtherChoices) → ArePlain (leaf_at 5 p t r q).rules
+state_plain p t r q = (choice_plain (codes "ends") q.state_ends refl, (file_plain (codes "log") refl, (number_plain (codes "after") 0 999999999 refl, asking_plain)))
+
+state_given : (p t r : Choices) (q : OtherChoices) (rest : List Text) (o : StateOptions) (says : LeafSays (leaf_at 5 p t r q) rest) → texts q.state_ends.now ≡ ends_words
+    → Some o.log.now ≡ first_of (codes "log") (rows_after (leaf_at 5 p t r q).rules [] rest) → MayRead (first_of (codes "after") (rows_after (leaf_at 5 p t r q).rules [] rest)) o.after
+    → o.homes ≡ homes_of (first_of (codes "ends") (rows_after (leaf_at 5 p t r q).rules [] rest)) → GivesState says.settings o
+state_given p t r q rest o says words log after ends = record {
+  only = only_names (leaf_at 5 p t r q).rules says.settings (state_plain p t r q) says.taken;
+  ends = ends_given (leaf_at 5 p t r q).rules says.settings o.homes says.taken q.state_ends words (filled (choice_rule (codes "ends") q.state_ends)) refl refl refl _ (says.first (codes "ends")) ends;
+  log = file_given (leaf_at 5 p t r q).rules says.settings (codes "log") (Some o.log.now) says.taken (filled (file_rule (codes "log"))) refl refl
+      (first_of (codes "log") (rows_after (leaf_at 5 p t r q).rules [] rest)) (says.first (codes "log")) log;
+  after = may_given (leaf_at 5 p t r q).rules says.settings (codes "after") 0 999999999 o.after (lit< tt) says.taken (filled (number_rule (codes "after") 0 999999999)) refl refl refl
+      (first_of (codes "after") (rows_after (leaf_at 5 p t r q).rules [] rest)) (says.first (codes "after")) after;
 }
 
 check_means : (p t r : Choices) (q : OtherChoices) (rest : List Text) (o : Options) (says : LeafSays (leaf_at 0 p t r q) rest) → texts q.check_ends.now ≡ ends_words
     → Reads (codes "check") (λ id. first_of id (rows_after (leaf_at 0 p t r q).rules [] rest)) (clients_in (rows_after (leaf_at 0 p t r q).rules [] rest)) o → Means (codes "check") says.settings o
 check_means p t r q rest (Check o) says ends reads =
-    ((refl, ruled_given (leaf_at 0 p t r q) rest q.check_ends o.homes (check_ruled p t r q) ends says (reads.4 refl)), none_lacks (codes "check") (λ id. value_of id says.settings) refl refl)
+    ((refl, ruled_given (leaf_at 0 p t r q) rest q.check_ends o.homes (check_ruled p t r q) ends says (reads.5 refl)), none_lacks (codes "check") (λ id. value_of id says.settings) refl refl refl)
 check_means p t r q rest (Replay o) says ends reads = absurd (other_word (codes "check") (codes "replay") refl reads.0)
 check_means p t r q rest (Verify o) says ends reads = absurd (other_word (codes "check") (codes "verify") refl reads.0)
 check_means p t r q rest (Live o) says ends reads = absurd (other_word (codes "check") (codes "live") refl reads.0)
 check_means p t r q rest (Serve o) says ends reads = absurd (other_word (codes "check") (codes "serve") refl reads.0)
+check_means p t r q rest (State o) says ends reads = absurd (other_word (codes "check") (codes "state") refl reads.0)
 
 verify_means : (p t r : Choices) (q : OtherChoices) (rest : List Text) (o : Options) (says : LeafSays (leaf_at 2 p t r q) rest) → texts q.verify_ends.now ≡ ends_words
     → Reads (codes "verify") (λ id. first_of id (rows_after (leaf_at 2 p t r q).rules [] rest)) (clients_in (rows_after (leaf_at 2 p t r q).rules [] rest)) o → Means (codes "verify") says.settings o
 verify_means p t r q rest (Check o) says ends reads = absurd (reads.3 refl)
 verify_means p t r q rest (Replay o) says ends reads = absurd (other_word (codes "verify") (codes "replay") refl reads.0)
 verify_means p t r q rest (Verify o) says ends reads =
-    ((refl, verify_given p t r q rest o says ends (reads.1, reads.2)), none_lacks (codes "verify") (λ id. value_of id says.settings) refl refl)
+    ((refl, verify_given p t r q rest o says ends (reads.1, reads.2, reads.3)), none_lacks (codes "verify") (λ id. value_of id says.settings) refl refl refl)
 verify_means p t r q rest (Live o) says ends reads = absurd (other_word (codes "verify") (codes "live") refl reads.0)
 verify_means p t r q rest (Serve o) says ends reads = absurd (other_word (codes "verify") (codes "serve") refl reads.0)
+verify_means p t r q rest (State o) says ends reads = absurd (other_word (codes "verify") (codes "state") refl reads.0)
+
+state_means : (p t r : Choices) (q : OtherChoices) (rest : List Text) (o : Options) (says : LeafSays (leaf_at 5 p t r q) rest) → texts q.state_ends.now ≡ ends_words
+    → Reads (codes "state") (λ id. first_of id (rows_after (leaf_at 5 p t r q).rules [] rest)) (clients_in (rows_after (leaf_at 5 p t r q).rules [] rest)) o → Means (codes "state") says.settings o
+state_means p t r q rest (Check o) says ends reads = absurd (reads.4 refl)
+state_means p t r q rest (Replay o) says ends reads = absurd (other_word (codes "state") (codes "replay") refl reads.0)
+state_means p t r q rest (Verify o) says ends reads = absurd (other_word (codes "state") (codes "verify") refl reads.0)
+state_means p t r q rest (Live o) says ends reads = absurd (other_word (codes "state") (codes "live") refl reads.0)
+state_means p t r q rest (Serve o) says ends reads = absurd (other_word (codes "state") (codes "serve") refl reads.0)
+state_means p t r q rest (State o) says ends reads =
+    ((refl, state_given p t r q rest o says ends reads.1 reads.2 reads.3), state_lacks (λ id. value_of id says.settings) o.log.now (reads.1 ∙ says.first (codes "log")))
 
 clients_plain : (q : OtherChoices) → ArePlain (filled (file_rule (codes "log")) ∷ filled (switch_rule (codes "new")) ∷ filled (choice_rule (codes "replies") q.replies) ∷ filled (number_rule (codes "share") 1 1000000) ∷ filled (many_rule (codes "client")) ∷ Flags)
 clients_plain q = (file_plain (codes "log") refl, (switch_plain (codes "new") refl refl, (choice_plain (codes "replies") q.replies refl, (number_plain (codes "share") 1 1000000 refl, (many_plain (codes "client") refl refl, asking_plain)))))
@@ -351,6 +397,7 @@ replay_means p t r q rest (Replay o) says planners tails replies ends reads = (
 replay_means p t r q rest (Verify o) says planners tails replies ends reads = absurd (other_word (codes "replay") (codes "verify") refl reads.0)
 replay_means p t r q rest (Live o) says planners tails replies ends reads = absurd (other_word (codes "replay") (codes "live") refl reads.0)
 replay_means p t r q rest (Serve o) says planners tails replies ends reads = absurd (other_word (codes "replay") (codes "serve") refl reads.0)
+replay_means p t r q rest (State o) says planners tails replies ends reads = absurd (other_word (codes "replay") (codes "state") refl reads.0)
 
 -- all that was found for clients is all that the settings give
 clients_said : (s : Shape) (rest : List Text) (says : LeafSays s rest) → clients_in (rows_after s.rules [] rest) ≡ values_of (codes "client") says.settings
@@ -378,9 +425,10 @@ live_means p t r q rest (Live o) says planners ends reads = (
     live_given p t r q rest o says planners ends reads.1,
     λ both. reads.2 (lacks_as BoundsPatient (λ id. value_of id says.settings) (λ id. first_of id (rows_after (leaf_at 3 p t r q).rules [] rest)) (λ id. sym (says.first id)) both),
   ),
-  none_lacks (codes "live") (λ id. value_of id says.settings) refl refl,
+  none_lacks (codes "live") (λ id. value_of id says.settings) refl refl refl,
 )
 live_means p t r q rest (Serve o) says planners ends reads = absurd (other_word (codes "live") (codes "serve") refl reads.0)
+live_means p t r q rest (State o) says planners ends reads = absurd (other_word (codes "live") (codes "state") refl reads.0)
 
 serve_given : (p t r : Choices) (q : OtherChoices) (rest : List Text) (o : ServeOptions) (says : LeafSays (leaf_at 4 p t r q) rest) → texts q.planners.now ≡ planner_words → texts q.replies.now ≡ replies_words → texts q.serve_ends.now ≡ ends_words
     → ReadsServe (λ id. first_of id (rows_after (leaf_at 4 p t r q).rules [] rest)) (clients_in (rows_after (leaf_at 4 p t r q).rules [] rest)) o → value_of (codes "client") says.settings ≢ None → (ServeClashes (λ id. value_of id says.settings) → ⊥) → GivesServe says.settings o
@@ -415,6 +463,7 @@ serve_means p t r q rest (Check o) says planners replies ends reads = absurd (re
 serve_means p t r q rest (Replay o) says planners replies ends reads = absurd (other_word (codes "serve") (codes "replay") refl reads.0)
 serve_means p t r q rest (Verify o) says planners replies ends reads = absurd (other_word (codes "serve") (codes "verify") refl reads.0)
 serve_means p t r q rest (Live o) says planners replies ends reads = absurd (other_word (codes "serve") (codes "live") refl reads.0)
+serve_means p t r q rest (State o) says planners replies ends reads = absurd (other_word (codes "serve") (codes "state") refl reads.0)
 serve_means p t r q rest (Serve o) says planners replies ends reads =
     let given : Text → Option Text = λ id. value_of id says.settings in
     let found : Text → Option Text = (λ id. first_of id (rows_after (leaf_at 4 p t r q).rules [] rest)) in
@@ -460,7 +509,12 @@ given_by p t r q words after rest program o leaf are whole first fine reads (inr
     let read : ReadsFrom (codes "live") (leaf_at 3 p t r q) rest o = subst (λ (s : Shape). ReadsFrom s.name s rest o) (sym is) reads in
     let named : after ≡ codes "live" ∷ rest = subst (λ (s : Shape). after ≡ s.name ∷ rest) (sym is) first in
     (codes "live", says.settings, line_of words rest program (codes "live") after (leaf_at 3 p t r q) says whole named, live_means p t r q rest o says are.live are.live_ends read)
-given_by p t r q words after rest program o leaf are whole first fine reads (inr (inr (inr (inr is)))) =
+given_by p t r q words after rest program o leaf are whole first fine reads (inr (inr (inr (inr (inr is))))) =
+    let says = leaf_says (leaf_at 5 p t r q) rest (state_plain p t r q) refl (subst (λ (s : Shape). level_fault s [] nothing_held rest false [] ≡ []) (sym is) fine) in
+    let read : ReadsFrom (codes "state") (leaf_at 5 p t r q) rest o = subst (λ (s : Shape). ReadsFrom s.name s rest o) (sym is) reads in
+    let named : after ≡ codes "state" ∷ rest = subst (λ (s : Shape). after ≡ s.name ∷ rest) (sym is) first in
+    (codes "state", says.settings, line_of words rest program (codes "state") after (leaf_at 5 p t r q) says whole named, state_means p t r q rest o says are.state_ends read)
+given_by p t r q words after rest program o leaf are whole first fine reads (inr (inr (inr (inr (inl is))))) =
     let says = leaf_says (leaf_at 4 p t r q) rest (serve_plain p t r q) refl (subst (λ (s : Shape). level_fault s [] nothing_held rest false [] ≡ []) (sym is) fine) in
     let read : ReadsFrom (codes "serve") (leaf_at 4 p t r q) rest o = subst (λ (s : Shape). ReadsFrom s.name s rest o) (sym is) reads in
     let named : after ≡ codes "serve" ∷ rest = subst (λ (s : Shape). after ≡ s.name ∷ rest) (sym is) first in
@@ -481,18 +535,18 @@ pub told_as : (kind : ErrorKind) (name : Text) (f g : Text → Option Text) (xs 
 told_as kind name f g xs ys same clients told =
     subst (λ zs. IsTold kind name g zs) clients (subst (λ (h : Text → Option Text). IsTold kind name h xs) (λ i id. same id i) told)
 
-none_told : (kind : ErrorKind) (word : Text) (given : Text → Option Text) (clients : List Text) → bytes_eq word (codes "replay") ≡ false → bytes_eq word (codes "serve") ≡ false → bytes_eq word (codes "live") ≡ false → IsTold kind word given clients → ⊥
-none_told kind word given clients no_replay no_serve no_live (inl lacks) = none_lacks word given no_replay no_serve lacks.0
-none_told kind word given clients no_replay no_serve no_live (inr (inl (inl clash, kind_is))) = other_word word (codes "serve") no_serve clash.0
-none_told kind word given clients no_replay no_serve no_live (inr (inl (inr (inl clash), kind_is))) = other_word word (codes "replay") no_replay clash.0
-none_told kind word given clients no_replay no_serve no_live (inr (inl (inr (inr clash), kind_is))) = other_word word (codes "live") no_live clash.0
-none_told kind word given clients no_replay no_serve no_live (inr (inr none)) = other_word word (codes "serve") no_serve none.0.0
+none_told : (kind : ErrorKind) (word : Text) (given : Text → Option Text) (clients : List Text) → bytes_eq word (codes "replay") ≡ false → bytes_eq word (codes "serve") ≡ false → bytes_eq word (codes "live") ≡ false → bytes_eq word (codes "state") ≡ false → IsTold kind word given clients → ⊥
+none_told kind word given clients no_replay no_serve no_live no_state (inl lacks) = none_lacks word given no_replay no_serve no_state lacks.0
+none_told kind word given clients no_replay no_serve no_live no_state (inr (inl (inl clash, kind_is))) = other_word word (codes "serve") no_serve clash.0
+none_told kind word given clients no_replay no_serve no_live no_state (inr (inl (inr (inl clash), kind_is))) = other_word word (codes "replay") no_replay clash.0
+none_told kind word given clients no_replay no_serve no_live no_state (inr (inl (inr (inr clash), kind_is))) = other_word word (codes "live") no_live clash.0
+none_told kind word given clients no_replay no_serve no_live no_state (inr (inr none)) = other_word word (codes "serve") no_serve none.0.0
 
 -- a subcommand that is told where paths end alone has no options that do not go together
-never_wrong : (kind : ErrorKind) (s leaf : Shape) (rest : List Text) (word : Text) → s ≡ leaf → s.name ≡ word → bytes_eq word (codes "replay") ≡ false → bytes_eq word (codes "serve") ≡ false → bytes_eq word (codes "live") ≡ false → FindsWrong kind leaf rest → ⊥
-never_wrong kind s leaf rest word is name no_replay no_serve no_live wrong =
+never_wrong : (kind : ErrorKind) (s leaf : Shape) (rest : List Text) (word : Text) → s ≡ leaf → s.name ≡ word → bytes_eq word (codes "replay") ≡ false → bytes_eq word (codes "serve") ≡ false → bytes_eq word (codes "live") ≡ false → bytes_eq word (codes "state") ≡ false → FindsWrong kind leaf rest → ⊥
+never_wrong kind s leaf rest word is name no_replay no_serve no_live no_state wrong =
     let at : FindsWrong kind s rest = subst (λ (x : Shape). FindsWrong kind x rest) (sym is) wrong in
-    none_told kind word (λ id. first_of id (rows_after s.rules [] rest)) (clients_in (rows_after s.rules [] rest)) no_replay no_serve no_live
+    none_told kind word (λ id. first_of id (rows_after s.rules [] rest)) (clients_in (rows_after s.rules [] rest)) no_replay no_serve no_live no_state
     (subst (λ n. IsTold kind n (λ id. first_of id (rows_after s.rules [] rest)) (clients_in (rows_after s.rules [] rest))) name at)
 
 mistaken_at : (kind : ErrorKind) (words after rest : List Text) (program : Text) (s leaf : Shape) → s ≡ leaf → ArePlain s.rules → s.args_override_self ≡ false
@@ -513,15 +567,18 @@ mistaken_at kind words after rest program s leaf is plain never named whole firs
 
 mistaken_by : (kind : ErrorKind) (p t r : Choices) (q : OtherChoices) (words after rest : List Text) (program : Text) (leaf : Shape) → words ≡ program ∷ after → after ≡ leaf.name ∷ rest → level_fault leaf [] nothing_held rest false [] ≡ [] → FindsWrong kind leaf rest
     → IsLeaf p t r q leaf → Mistaken kind words
-mistaken_by kind p t r q words after rest program leaf whole first fine wrong (inl is) = absurd (never_wrong kind (leaf_at 0 p t r q) leaf rest (codes "check") is refl refl refl refl wrong)
-mistaken_by kind p t r q words after rest program leaf whole first fine wrong (inr (inr (inl is))) = absurd (never_wrong kind (leaf_at 2 p t r q) leaf rest (codes "verify") is refl refl refl refl wrong)
+mistaken_by kind p t r q words after rest program leaf whole first fine wrong (inl is) = absurd (never_wrong kind (leaf_at 0 p t r q) leaf rest (codes "check") is refl refl refl refl refl wrong)
+mistaken_by kind p t r q words after rest program leaf whole first fine wrong (inr (inr (inl is))) = absurd (never_wrong kind (leaf_at 2 p t r q) leaf rest (codes "verify") is refl refl refl refl refl wrong)
 mistaken_by kind p t r q words after rest program leaf whole first fine wrong (inr (inr (inr (inl is)))) =
     mistaken_at kind words after rest program (leaf_at 3 p t r q) leaf is (live_plain p t r q) refl
     (λ says. only_named live_names says.settings refl (only_names (leaf_at 3 p t r q).rules says.settings (live_plain p t r q) says.taken)) whole first fine wrong
 mistaken_by kind p t r q words after rest program leaf whole first fine wrong (inr (inl is)) =
     mistaken_at kind words after rest program (leaf_at 1 p t r q) leaf is (replay_plain p t r q) refl
     (λ says. only_named replay_names says.settings refl (only_names (leaf_at 1 p t r q).rules says.settings (replay_plain p t r q) says.taken)) whole first fine wrong
-mistaken_by kind p t r q words after rest program leaf whole first fine wrong (inr (inr (inr (inr is)))) =
+mistaken_by kind p t r q words after rest program leaf whole first fine wrong (inr (inr (inr (inr (inr is))))) =
+    mistaken_at kind words after rest program (leaf_at 5 p t r q) leaf is (state_plain p t r q) refl
+    (λ says. only_named state_names says.settings refl (only_names (leaf_at 5 p t r q).rules says.settings (state_plain p t r q) says.taken)) whole first fine wrong
+mistaken_by kind p t r q words after rest program leaf whole first fine wrong (inr (inr (inr (inr (inl is))))) =
     mistaken_at kind words after rest program (leaf_at 4 p t r q) leaf is (serve_plain p t r q) refl
     (λ says. only_named serve_names says.settings refl (only_names (leaf_at 4 p t r q).rules says.settings (serve_plain p t r q) says.taken)) whole first fine wrong
 

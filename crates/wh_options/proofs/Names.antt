@@ -5,9 +5,9 @@ use Rattle.std.specs.Str.{bytes_eq}
 use Rattle.clap.proofs.WalkLemmas.{both}
 use Rattle.clap.specs.Lexer.{has_byte}
 use Rattle.wh_options.specs.Setting.{Setting, Text}
-use Rattle.wh_options.specs.Options.{EachGives, EachSays, HasOnly, live_names, replay_names, rule_names, serve_names, verify_names}
+use Rattle.wh_options.specs.Options.{EachGives, EachSays, HasOnly, live_names, replay_names, rule_names, serve_names, state_names, verify_names}
 use Rattle.wh_options.specs.declared.chosen.Options.{Options}
-use Rattle.wh_options.specs.declared.chosen.Options.TheVariants.{Check, Replay, Verify, Live, Serve}
+use Rattle.wh_options.specs.declared.chosen.Options.TheVariants.{Check, Replay, Verify, Live, Serve, State}
 use Rattle.wh_options.proofs.Shapes.{bytes_same}
 use Rattle.wh_options.proofs.Words.{self_same}
 
@@ -44,8 +44,10 @@ gives_named name xs (Verify o) m = only_named verify_names xs refl m.1.only
 gives_named name xs (Replay o) m = only_named replay_names xs refl m.1.only
 gives_named name xs (Live o) m = only_named live_names xs refl m.1.only
 gives_named name xs (Serve o) m = only_named serve_names xs refl m.1.only
+gives_named name xs (State o) m = only_named state_names xs refl m.1.only
 
 pub says_named : (name : Text) (xs : List Setting) → EachSays name xs → Named xs
 says_named name xs (inl said) = only_named replay_names xs refl said.2.only
 says_named name xs (inr (inl said)) = only_named serve_names xs refl said.1.only
-says_named name xs (inr (inr said)) = only_named live_names xs refl said.2.only
+says_named name xs (inr (inr (inl said))) = only_named live_names xs refl said.2.only
+says_named name xs (inr (inr (inr said))) = only_named state_names xs refl said.1.only

@@ -5,11 +5,12 @@ use Rattle.std.specs.List.{AllByRecursion, AllZip, after_first, before_first, fl
 use Rattle.std.specs.Str.{bytes_eq}
 use Rattle.clap.specs.Lexer.{has_byte}
 use Rattle.wh_options.specs.Setting.{Closes, IsInPlace, IsLine, Setting, Spelling, StandsBy, Text, alone, apart, is_switch, joined, spelled, spelled_by, value_of, values_of}
-use Rattle.wh_options.specs.Options.{AreSame, EachGives, GivesFleet, GivesHomes, GivesLive, GivesNumber, GivesPlanner, GivesReplay, GivesReplies, GivesServe, GivesTail, MayGive, GivesVehicles, GivesRule, GivesVerify, IsWritten, WordsGive, ends_text, planner_text, replies_text, tail_text}
+use Rattle.wh_options.specs.Options.{AreSame, EachGives, GivesFleet, GivesHomes, GivesLive, GivesNumber, GivesPlanner, GivesReplay, GivesReplies, GivesServe, GivesState, GivesTail, MayGive, GivesVehicles, GivesRule, GivesVerify, IsWritten, WordsGive, ends_text, planner_text, replies_text, tail_text}
 use Rattle.wh_options.specs.declared.chosen.Options.{Options}
-use Rattle.wh_options.specs.declared.chosen.Options.TheVariants.{Check, Replay, Verify, Live, Serve}
+use Rattle.wh_options.specs.declared.chosen.Options.TheVariants.{Check, Replay, Verify, Live, Serve, State}
 use Rattle.wh_options.specs.declared.chosen.VerifyOptions.{VerifyOptions}
 use Rattle.wh_options.specs.declared.chosen.ServeOptions.{ServeOptions}
+use Rattle.wh_options.specs.declared.chosen.StateOptions.{StateOptions}
 use Rattle.wh_options.specs.declared.chosen.LiveOptions.{LiveOptions}
 use Rattle.wh_options.specs.declared.chosen.ReplayOptions.{ReplayOptions}
 use Rattle.wh_client.specs.Clients.{GivesClient}
@@ -259,7 +260,8 @@ verify_once : (xs ys : List Setting) (o p : VerifyOptions) → Agree xs ys → G
 verify_once xs ys o p agree m n =
     let homes = ends_once xs ys o.homes p.homes agree m.ends n.ends in
     let unended : o.unended ≡ p.unended = m.unended ∙ ap is_some (agree (codes "unended")) ∙ sym n.unended in
-    λ i. record { homes = homes i; unended = unended i }
+    let wlog = may_once xs ys (codes "wlog") 3 3 o.wlog p.wlog agree m.wlog n.wlog in
+    λ i. record { homes = homes i; unended = unended i; wlog = wlog i }
 
 replay_once : (xs ys : List Setting) (o p : ReplayOptions) → Agree xs ys → GivesReplay xs o → GivesReplay ys p → AreSame (Replay o) (Replay p)
 replay_once xs ys o p agree m n =
@@ -300,6 +302,11 @@ serve_once xs ys o p all m n =
       clients_once (values_of (codes "client") xs) o.clients.items p.clients.items m.clients.each other,
     )
 
+state_once : (xs ys : List Setting) (o p : StateOptions) → Agree xs ys → GivesState xs o → GivesState ys p → AreSame (State o) (State p)
+state_once xs ys o p agree m n =
+    let log : Some o.log.now ≡ Some p.log.now = m.log.is ∙ agree (codes "log") ∙ sym n.log.is in
+    (some_same o.log.now p.log.now log, may_once xs ys (codes "after") 0 999999999 o.after p.after agree m.after n.after, ends_once xs ys o.homes p.homes agree m.ends n.ends)
+
 apart_so : (name told one other : Text) → name ≡ told → bytes_eq one other ≡ false → name ≡ one → told ≡ other → ⊥
 apart_so name told one other is differs m n = other_word one other differs (sym m ∙ is ∙ n)
 
@@ -309,26 +316,37 @@ gives_once name told xs ys (Check o) (Replay p) is all m n = absurd (apart_so na
 gives_once name told xs ys (Check o) (Verify p) is all m n = absurd (apart_so name told (codes "check") (codes "verify") is refl m.0 n.0)
 gives_once name told xs ys (Check o) (Live p) is all m n = absurd (apart_so name told (codes "check") (codes "live") is refl m.0 n.0)
 gives_once name told xs ys (Check o) (Serve p) is all m n = absurd (apart_so name told (codes "check") (codes "serve") is refl m.0 n.0)
+gives_once name told xs ys (Check o) (State p) is all m n = absurd (apart_so name told (codes "check") (codes "state") is refl m.0 n.0)
 gives_once name told xs ys (Replay o) (Check p) is all m n = absurd (apart_so name told (codes "replay") (codes "check") is refl m.0 n.0)
 gives_once name told xs ys (Replay o) (Replay p) is all m n = replay_once xs ys o p (all_agree xs ys all) m.1 n.1
 gives_once name told xs ys (Replay o) (Verify p) is all m n = absurd (apart_so name told (codes "replay") (codes "verify") is refl m.0 n.0)
 gives_once name told xs ys (Replay o) (Live p) is all m n = absurd (apart_so name told (codes "replay") (codes "live") is refl m.0 n.0)
 gives_once name told xs ys (Replay o) (Serve p) is all m n = absurd (apart_so name told (codes "replay") (codes "serve") is refl m.0 n.0)
+gives_once name told xs ys (Replay o) (State p) is all m n = absurd (apart_so name told (codes "replay") (codes "state") is refl m.0 n.0)
 gives_once name told xs ys (Verify o) (Check p) is all m n = absurd (apart_so name told (codes "verify") (codes "check") is refl m.0 n.0)
 gives_once name told xs ys (Verify o) (Replay p) is all m n = absurd (apart_so name told (codes "verify") (codes "replay") is refl m.0 n.0)
 gives_once name told xs ys (Verify o) (Verify p) is all m n = ap Verify (verify_once xs ys o p (all_agree xs ys all) m.1 n.1)
 gives_once name told xs ys (Verify o) (Live p) is all m n = absurd (apart_so name told (codes "verify") (codes "live") is refl m.0 n.0)
 gives_once name told xs ys (Verify o) (Serve p) is all m n = absurd (apart_so name told (codes "verify") (codes "serve") is refl m.0 n.0)
+gives_once name told xs ys (Verify o) (State p) is all m n = absurd (apart_so name told (codes "verify") (codes "state") is refl m.0 n.0)
 gives_once name told xs ys (Live o) (Check p) is all m n = absurd (apart_so name told (codes "live") (codes "check") is refl m.0 n.0)
 gives_once name told xs ys (Live o) (Replay p) is all m n = absurd (apart_so name told (codes "live") (codes "replay") is refl m.0 n.0)
 gives_once name told xs ys (Live o) (Verify p) is all m n = absurd (apart_so name told (codes "live") (codes "verify") is refl m.0 n.0)
 gives_once name told xs ys (Live o) (Live p) is all m n = ap Live (live_once xs ys o p (all_agree xs ys all) m.1 n.1)
 gives_once name told xs ys (Live o) (Serve p) is all m n = absurd (apart_so name told (codes "live") (codes "serve") is refl m.0 n.0)
+gives_once name told xs ys (Live o) (State p) is all m n = absurd (apart_so name told (codes "live") (codes "state") is refl m.0 n.0)
 gives_once name told xs ys (Serve o) (Check p) is all m n = absurd (apart_so name told (codes "serve") (codes "check") is refl m.0 n.0)
 gives_once name told xs ys (Serve o) (Replay p) is all m n = absurd (apart_so name told (codes "serve") (codes "replay") is refl m.0 n.0)
 gives_once name told xs ys (Serve o) (Verify p) is all m n = absurd (apart_so name told (codes "serve") (codes "verify") is refl m.0 n.0)
 gives_once name told xs ys (Serve o) (Live p) is all m n = absurd (apart_so name told (codes "serve") (codes "live") is refl m.0 n.0)
 gives_once name told xs ys (Serve o) (Serve p) is all m n = serve_once xs ys o p all m.1 n.1
+gives_once name told xs ys (Serve o) (State p) is all m n = absurd (apart_so name told (codes "serve") (codes "state") is refl m.0 n.0)
+gives_once name told xs ys (State o) (Check p) is all m n = absurd (apart_so name told (codes "state") (codes "check") is refl m.0 n.0)
+gives_once name told xs ys (State o) (Replay p) is all m n = absurd (apart_so name told (codes "state") (codes "replay") is refl m.0 n.0)
+gives_once name told xs ys (State o) (Verify p) is all m n = absurd (apart_so name told (codes "state") (codes "verify") is refl m.0 n.0)
+gives_once name told xs ys (State o) (Live p) is all m n = absurd (apart_so name told (codes "state") (codes "live") is refl m.0 n.0)
+gives_once name told xs ys (State o) (Serve p) is all m n = absurd (apart_so name told (codes "state") (codes "serve") is refl m.0 n.0)
+gives_once name told xs ys (State o) (State p) is all m n = state_once xs ys o p (all_agree xs ys all) m.1 n.1
 
 -- words give at most one set of options
 pub given_once : (words : List Text) (o p : Options) → WordsGive words o → WordsGive words p → AreSame o p

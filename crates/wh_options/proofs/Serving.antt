@@ -7,8 +7,9 @@ use Rattle.clap.specs.Walk.{Row, all_of}
 use Rattle.wh_client.specs.Clients.{GivesClient, Text}
 use Rattle.wh_client.specs.declared.client.ClientOptions.{ClientOptions}
 use Rattle.wh_options.specs.Setting.{Setting}
-use Rattle.wh_options.specs.Options.{GivesServe, SaysServe, ServeLacks}
+use Rattle.wh_options.specs.Options.{GivesServe, GivesState, SaysServe, SaysState, ServeLacks}
 use Rattle.wh_options.specs.declared.chosen.ServeOptions.{ServeOptions}
+use Rattle.wh_options.specs.declared.chosen.StateOptions.{StateOptions}
 use Rattle.wh_options.proofs.Rows.{values_in}
 
 all_step : (id : Text) (r : Row) (rs : List Row) (b : Bool) → unwrap_or (option_map (λ (q : Row). q.values) (find (λ (q : Row). bytes_eq q.id id) rs)) [] ≡ values_in id rs
@@ -49,6 +50,17 @@ says_of_serve settings o gives = record {
   every = gives.every;
   board = gives.board;
   board_every = gives.board_every;
+}
+
+pub says_of_state : (settings : List Setting) (o : StateOptions) → GivesState settings o → SaysState settings
+says_of_state settings o gives = record {
+  homes = o.homes;
+  kept = Some o.log.now;
+  count = o.after;
+  only = gives.only;
+  ends = gives.ends;
+  log = gives.log;
+  after = gives.after;
 }
 
 -- ---- what is needed

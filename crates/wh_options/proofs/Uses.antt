@@ -216,3 +216,7 @@ live_enters p t r q = record { turns = refl; stops = refl; found = refl; default
 pub serve_enters : (p t r : Choices) (q : OtherChoices) → Enters (built (menu p t r q)) (codes "serve") (leaf_at 4 p t r q)
 unfolding walked defaults_fault
 serve_enters p t r q = record { turns = refl; stops = refl; found = refl; defaults = refl; checks = λ rows. refl }
+
+pub state_enters : (p t r : Choices) (q : OtherChoices) → Enters (built (menu p t r q)) (codes "state") (leaf_at 5 p t r q)
+unfolding walked defaults_fault
+state_enters p t r q = record { turns = refl; stops = refl; found = refl; defaults = refl; checks = λ rows. refl }

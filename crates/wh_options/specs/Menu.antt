@@ -78,9 +78,13 @@ with_ends_rule ends a = with_rule a (choice_rule (codes "ends") ends)
 abbrev pub ruled_app : Text → Choices → App
 ruled_app name ends = with_ends_rule ends (new_app name)
 
--- the subcommand that is also told that a log may lack its last line
+-- the subcommand that is also told that a log may lack its last line, and that one may be of version 3
 abbrev pub verify_app : Choices → App
-verify_app ends = with_rule (ruled_app (codes "verify") ends) (switch_rule (codes "unended"))
+verify_app ends = with_rule (with_rule (ruled_app (codes "verify") ends) (switch_rule (codes "unended"))) (number_rule (codes "wlog") 3 3)
+
+-- the subcommand that is also told which file has the log, and how many of its entries count
+abbrev pub state_app : Choices → App
+state_app ends = with_rule (with_rule (ruled_app (codes "state") ends) (file_rule (codes "log"))) (number_rule (codes "after") 0 999999999)
 
 -- the options that say which planners there are, and where paths end
 abbrev pub fleet_app : Text → Choices → Choices → App
@@ -138,6 +142,7 @@ pub record OtherChoices : Type 0 where
   pub verify_ends : Choices
   pub live_ends : Choices
   pub serve_ends : Choices
+  pub state_ends : Choices
 
 -- a subcommand must follow, and each command tells the version
 abbrev pub with_settings : App → App
@@ -148,11 +153,11 @@ with_settings a = record a {
 -- the whole command
 abbrev pub menu : Choices → Choices → Choices → OtherChoices → App
 menu planners tails replies others =
-    with_subcommand (with_subcommand (with_subcommand (with_subcommand (with_subcommand
+    with_subcommand (with_subcommand (with_subcommand (with_subcommand (with_subcommand (with_subcommand
     (with_settings (new_app (codes "warehouse")))
     (ruled_app (codes "check") others.check_ends).top) (replay_app planners tails replies others.replay_ends).top)
     (verify_app others.verify_ends).top) (live_app others.live others.live_ends).top)
-    (serve_app others.planners others.replies others.serve_ends).top
+    (serve_app others.planners others.replies others.serve_ends).top) (state_app others.state_ends).top
 
 -- a command with this shape, and no argument that reaches below it
 pub record HasShape (c : Command) (a : App) : Type 0 where
@@ -175,6 +180,11 @@ pub record IsVerifyCommand (c : Command) : Type 0 where
   pub ends : Choices
   pub ends_texts : texts ends.now ≡ ends_words
   pub is : HasShape c (verify_app ends)
+
+pub record IsStateCommand (c : Command) : Type 0 where
+  pub ends : Choices
+  pub ends_texts : texts ends.now ≡ ends_words
+  pub is : HasShape c (state_app ends)
 
 pub record IsReplayCommand (c : Command) : Type 0 where
   pub planners : Choices
@@ -214,6 +224,12 @@ pub record AddsVerify (b c : Command) : Type 0 where
   pub ends : Choices
   pub ends_texts : texts ends.now ≡ ends_words
   pub is : app_of c ≡ with_subcommand (app_of b) (verify_app ends).top
+
+-- a command that has the subcommand `state` besides
+pub record AddsState (b c : Command) : Type 0 where
+  pub ends : Choices
+  pub ends_texts : texts ends.now ≡ ends_words
+  pub is : app_of c ≡ with_subcommand (app_of b) (state_app ends).top
 
 -- a command that has the subcommand `replay` besides
 pub record AddsReplay (b c : Command) : Type 0 where
@@ -262,4 +278,5 @@ pub record IsMenu (a : App) : Type 0 where
   pub verify_ends : texts others.verify_ends.now ≡ ends_words
   pub live_ends : texts others.live_ends.now ≡ ends_words
   pub serve_ends : texts others.serve_ends.now ≡ ends_words
+  pub state_ends : texts others.state_ends.now ≡ ends_words
   pub is : a ≡ menu planners tails replies others

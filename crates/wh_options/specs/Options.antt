@@ -18,8 +18,9 @@ use Rattle.wh_options.specs.declared.chosen.ReplayOptions.{ReplayOptions}
 use Rattle.wh_options.specs.declared.chosen.LiveOptions.{LiveOptions}
 use Rattle.wh_options.specs.declared.chosen.ServeOptions.{ServeOptions}
 use Rattle.wh_options.specs.declared.chosen.Options.{Options}
-use Rattle.wh_options.specs.declared.chosen.Options.TheVariants.{Check, Replay, Verify, Live, Serve}
+use Rattle.wh_options.specs.declared.chosen.Options.TheVariants.{Check, Replay, Verify, Live, Serve, State}
 use Rattle.wh_options.specs.declared.chosen.VerifyOptions.{VerifyOptions}
+use Rattle.wh_options.specs.declared.chosen.StateOptions.{StateOptions}
 
 -- the text is n in decimal digits, perhaps after a plus
 abbrev pub IsWritten : ℕ → Text → Type 0
@@ -122,7 +123,10 @@ abbrev pub rule_names : List Text
 rule_names = codes "ends" ∷ []
 
 abbrev pub verify_names : List Text
-verify_names = codes "ends" ∷ codes "unended" ∷ []
+verify_names = codes "ends" ∷ codes "unended" ∷ codes "wlog" ∷ []
+
+abbrev pub state_names : List Text
+state_names = codes "ends" ∷ codes "log" ∷ codes "after" ∷ []
 
 abbrev pub replay_names : List Text
 replay_names = codes "planner" ∷ codes "slack" ∷ codes "effort" ∷ codes "slots" ∷ codes "bank" ∷ codes "spares" ∷ codes "ends" ∷ codes "tail"
@@ -148,6 +152,14 @@ pub record GivesVerify (settings : List Setting) (o : VerifyOptions) : Type 0 wh
   pub only : HasOnly verify_names settings
   pub ends : GivesHomes settings o.homes
   pub unended : GivesSwitch settings (codes "unended") o.unended
+  pub wlog : MayGive settings (codes "wlog") 3 3 o.wlog
+
+-- what the settings of `state` say
+pub record GivesState (settings : List Setting) (o : StateOptions) : Type 0 where
+  pub only : HasOnly state_names settings
+  pub ends : GivesHomes settings o.homes
+  pub log : GivesFile settings (codes "log") (Some o.log.now)
+  pub after : MayGive settings (codes "after") 0 999999999 o.after
 
 -- what each setting of `replay` says by itself
 pub record GivesReplay (settings : List Setting) (o : ReplayOptions) : Type 0 where
@@ -233,6 +245,7 @@ EachGives name settings (Replay o) = (name ≡ codes "replay") × GivesReplay se
 EachGives name settings (Verify o) = (name ≡ codes "verify") × GivesVerify settings o
 EachGives name settings (Live o) = (name ≡ codes "live") × GivesLive settings o × (¬ BoundsPatient (λ id. value_of id settings))
 EachGives name settings (Serve o) = (name ≡ codes "serve") × GivesServe settings o
+EachGives name settings (State o) = (name ≡ codes "state") × GivesState settings o
 
 -- an option of `replay` is given without the one that it belongs to
 abbrev pub ReplayLacks : (Text → Option Text) → Type 0
@@ -247,10 +260,15 @@ ServeLacks given = (given (codes "log") ≡ None)
     ⊎ ((given (codes "client") ≡ None)
     ⊎ Lacks given (codes "board-every") (codes "board"))
 
+-- `state` is given no log
+abbrev pub StateLacks : (Text → Option Text) → Type 0
+StateLacks given = given (codes "log") ≡ None
+
 -- this subcommand is given an option without the one that it belongs to, or not what it needs
 abbrev pub LacksAny : Text → (Text → Option Text) → Type 0
 LacksAny name given = ((name ≡ codes "replay") × ReplayLacks given)
-    ⊎ ((name ≡ codes "serve") × ServeLacks given)
+    ⊎ (((name ≡ codes "serve") × ServeLacks given)
+    ⊎ ((name ≡ codes "state") × StateLacks given))
 
 -- the subcommand and its settings mean these options
 abbrev pub Means : Text → List Setting → Options → Type 0
@@ -283,11 +301,22 @@ pub record SaysServe (settings : List Setting) : Type 0 where
   pub board : GivesFile settings (codes "board") shown
   pub board_every : GivesNumber settings (codes "board-every") 100 1 60000 looks
 
--- each setting of `replay`, `serve` or `live` says something by itself
+-- each setting of `state` says something by itself, whatever stands beside it
+pub record SaysState (settings : List Setting) : Type 0 where
+  pub homes : Bool
+  pub kept : Option Text
+  pub count : Option ℕ
+  pub only : HasOnly state_names settings
+  pub ends : GivesHomes settings homes
+  pub log : GivesFile settings (codes "log") kept
+  pub after : MayGive settings (codes "after") 0 999999999 count
+
+-- each setting of `replay`, `serve`, `live` or `state` says something by itself
 abbrev pub EachSays : Text → List Setting → Type 0
 EachSays name settings = ((name ≡ codes "replay") × (o : ReplayOptions) × GivesReplay settings o)
     ⊎ (((name ≡ codes "serve") × SaysServe settings)
-    ⊎ ((name ≡ codes "live") × (o : LiveOptions) × GivesLive settings o))
+    ⊎ (((name ≡ codes "live") × (o : LiveOptions) × GivesLive settings o)
+    ⊎ ((name ≡ codes "state") × SaysState settings)))
 
 -- a way in which the settings of a subcommand, by what each name and `client` are given, do not go together
 abbrev pub Way : Type 1
@@ -323,4 +352,5 @@ AreSame (Replay o) (Replay p) = (o.fleet ≡ p.fleet) × (o.tail ≡ p.tail) × 
 AreSame (Serve o) (Serve p) = (o.fleet ≡ p.fleet) × (o.journal ≡ p.journal) × (o.share ≡ p.share) × (o.replies ≡ p.replies)
     × (o.log.now ≡ p.log.now) × (o.anew ≡ p.anew) × (o.every ≡ p.every) × (board_of o ≡ board_of p)
     × (o.board_every ≡ p.board_every) × AllZip IsSameClient o.clients.items p.clients.items
+AreSame (State o) (State p) = (o.log.now ≡ p.log.now) × (o.after ≡ p.after) × (o.homes ≡ p.homes)
 AreSame o p = o ≡ p

@@ -7,9 +7,9 @@ use Rattle.clap.specs.Words.{Row, Text, all_of}
 use Rattle.clap.specs.declared.error.kind.ErrorKind.{ErrorKind}
 use Rattle.clap.specs.declared.error.kind.ErrorKind.TheVariants.{ArgumentConflict, MissingRequiredArgument, ValueValidation}
 use Rattle.wh_client.specs.Clients.{GiveClients}
-use Rattle.wh_options.specs.Options.{BoundsPatient, IsClashing, IsClientless, IsLacking, ReplayClashes, ReplayLacks, ServeClashes, ServeLacks, Way, board_of, log_of}
+use Rattle.wh_options.specs.Options.{BoundsPatient, IsClashing, IsClientless, IsLacking, ReplayClashes, ReplayLacks, ServeClashes, ServeLacks, StateLacks, Way, board_of, log_of}
 use Rattle.wh_options.specs.declared.mistake.Mistake.{Mistake}
-use Rattle.wh_options.specs.declared.mistake.Mistake.TheVariants.{AheadWithoutVehicles, BehindWithoutVehicles, BoardCoversLog, DeliverWithVehicles, BoardEveryWithoutBoard, EffortOfPatientLive, EffortOfPatientReplay, EffortOfPatientServe, NewWithoutLog, NoClients, ServeWithoutClient, ServeWithoutLog, SlackOfPatientLive, SlackOfPatientReplay, SlackOfPatientServe, ToldWithoutLog}
+use Rattle.wh_options.specs.declared.mistake.Mistake.TheVariants.{AheadWithoutVehicles, BehindWithoutVehicles, BoardCoversLog, DeliverWithVehicles, BoardEveryWithoutBoard, EffortOfPatientLive, EffortOfPatientReplay, EffortOfPatientServe, NewWithoutLog, NoClients, ServeWithoutClient, ServeWithoutLog, StateWithoutLog, SlackOfPatientLive, SlackOfPatientReplay, SlackOfPatientServe, ToldWithoutLog}
 use Rattle.wh_options.specs.declared.chosen.PlannerKind.{PlannerKind}
 use Rattle.wh_options.specs.declared.chosen.PlannerKind.TheVariants.{Near, Patient}
 use Rattle.wh_options.specs.declared.chosen.Tail.{Tail}
@@ -22,7 +22,7 @@ use Rattle.wh_options.specs.declared.chosen.ReplayOptions.{ReplayOptions}
 use Rattle.wh_options.specs.declared.chosen.LiveOptions.{LiveOptions}
 use Rattle.wh_options.specs.declared.chosen.ServeOptions.{ServeOptions}
 use Rattle.wh_options.specs.declared.chosen.Options.{Options}
-use Rattle.wh_options.specs.declared.chosen.Options.TheVariants.{Check, Replay, Verify, Live, Serve}
+use Rattle.wh_options.specs.declared.chosen.Options.TheVariants.{Check, Replay, Verify, Live, Serve, State}
 
 -- n is the number that the text writes, where it writes one of 32 bits
 abbrev pub ReadsNumber : Option Text → ℕ → ℕ → Type 0
@@ -102,13 +102,16 @@ pub record ReadsServe (given : Text → Option Text) (clients : List Text) (o : 
 
 -- the subcommand and what was found for its arguments, as options
 abbrev pub Reads : Text → (Text → Option Text) → List Text → Options → Type 0
-Reads name given clients (Check o) = (name ≢ codes "replay") × (name ≢ codes "live") × (name ≢ codes "serve") × (name ≢ codes "verify")
+Reads name given clients (Check o) = (name ≢ codes "replay") × (name ≢ codes "live") × (name ≢ codes "serve") × (name ≢ codes "verify") × (name ≢ codes "state")
     × (name ≡ codes "check" → o.homes ≡ homes_of (given (codes "ends")))
 Reads name given clients (Replay o) = (name ≡ codes "replay") × ReadsReplay given o × (¬ ReplayLacks given) × (¬ ReplayClashes given)
 Reads name given clients (Verify o) = (name ≡ codes "verify") × (o.homes ≡ homes_of (given (codes "ends"))) × (o.unended ≡ is_some (given (codes "unended")))
+    × MayRead (given (codes "wlog")) o.wlog
 Reads name given clients (Live o) = (name ≡ codes "live") × ReadsLive given o × (¬ BoundsPatient given)
 Reads name given clients (Serve o) = (name ≡ codes "serve") × ReadsServe given clients o × (¬ ServeLacks given)
     × (¬ ServeClashes given)
+Reads name given clients (State o) = (name ≡ codes "state") × (Some o.log.now ≡ given (codes "log")) × MayRead (given (codes "after")) o.after
+    × (o.homes ≡ homes_of (given (codes "ends")))
 
 -- the kind of error that tells of a mistake
 abbrev pub kind_of_mistake : Mistake → ErrorKind
@@ -118,6 +121,7 @@ kind_of_mistake BehindWithoutVehicles = MissingRequiredArgument
 kind_of_mistake AheadWithoutVehicles = MissingRequiredArgument
 kind_of_mistake BoardEveryWithoutBoard = MissingRequiredArgument
 kind_of_mistake ServeWithoutLog = MissingRequiredArgument
+kind_of_mistake StateWithoutLog = MissingRequiredArgument
 kind_of_mistake ServeWithoutClient = MissingRequiredArgument
 kind_of_mistake BoardCoversLog = ArgumentConflict
 kind_of_mistake DeliverWithVehicles = ArgumentConflict
@@ -159,3 +163,8 @@ clients_in rows = unwrap_or (all_of (codes "client") rows) []
 abbrev pub ReadsLine : (Text → Option Text) → List Text → Result Options Mistake → Type 0
 ReadsLine given clients (Ok o) = Reads (codes "serve") given clients o
 ReadsLine given clients (Err mistake) = IsTold (kind_of_mistake mistake) (codes "serve") given clients
+
+-- the options of `state`, or that no log was found
+abbrev pub ReadsState : (Text → Option Text) → Result Options Mistake → Type 0
+ReadsState given (Ok o) = (clients : List Text) → Reads (codes "state") given clients o
+ReadsState given (Err mistake) = StateLacks given × (kind_of_mistake mistake ≡ MissingRequiredArgument)

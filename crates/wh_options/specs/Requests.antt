@@ -18,7 +18,7 @@ version_flags = codes "--version" ∷ codes "-V" ∷ []
 
 -- the names of the subcommands
 abbrev pub subcommand_names : List Text
-subcommand_names = codes "check" ∷ codes "replay" ∷ codes "verify" ∷ codes "live" ∷ codes "serve" ∷ []
+subcommand_names = codes "check" ∷ codes "replay" ∷ codes "verify" ∷ codes "live" ∷ codes "serve" ∷ codes "state" ∷ []
 
 -- nothing, or the name of a subcommand
 abbrev pub IsFront : List Text → Type 0

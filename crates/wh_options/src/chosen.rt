@@ -66,6 +66,19 @@ pub struct VerifyOptions {
     pub homes: bool,
     /// Whether the log may lack its last line.
     pub unended: bool,
+    /// 3, if logs of version 3 are taken too, which begin with a state.
+    pub wlog: Option<u32>,
+}
+
+/// The options of `state`. They keep a text of the words that gave them.
+#[derive(Clone, Copy, Debug, PartialEq, Eq)]
+pub struct StateOptions<'a> {
+    /// The name of the log's file; never empty.
+    pub log: &'a str,
+    /// After how many entries of the log the state is told, if not after all, 0 to 999999999.
+    pub after: Option<u32>,
+    /// Whether the log is of a run whose paths end at homes.
+    pub homes: bool,
 }
 
 /// How late vehicles may be, and how far ahead they are told.
@@ -149,4 +162,6 @@ pub enum Options<'a> {
     Live(LiveOptions),
     /// `serve`: running clients, over named pipes, with a log.
     Serve(ServeOptions<'a>),
+    /// `state`: the state to which a log leads.
+    State(StateOptions<'a>),
 }

@@ -1,7 +1,7 @@
 //! The command line as `clap` is told of it: the subcommands, their options and the help texts.
 ghost use Rattle.std.specs.Prelude.{◌≡◌, IfOk, codes, false};
 ghost use Rattle.clap.specs.Words.{App, app_of, new_app, rule_of, with_rule, with_subcommand};
-ghost use Rattle.wh_options.specs.Menu.{AddsLive, AddsReplay, AddsRuled, AddsServe, AddsVerify, choice_rule, file_rule, many_rule, number_rule, switch_rule, HasShape, IsFleetCommand, IsLiveCommand, IsMenu, IsReplayCommand, IsRuledCommand, IsServeCommand, IsVerifyCommand, with_board_rules, with_client_rules, with_deliver_rule, with_ends_rule, with_log_rules, with_settings, with_telling_rules, with_vehicle_rules};
+ghost use Rattle.wh_options.specs.Menu.{AddsLive, AddsReplay, AddsRuled, AddsServe, AddsState, AddsVerify, choice_rule, file_rule, many_rule, number_rule, switch_rule, HasShape, IsFleetCommand, IsLiveCommand, IsMenu, IsReplayCommand, IsRuledCommand, IsServeCommand, IsStateCommand, IsVerifyCommand, with_board_rules, with_client_rules, with_deliver_rule, with_ends_rule, with_log_rules, with_settings, with_telling_rules, with_vehicle_rules};
 
 use clap::builder::ValueParser;
 use clap::{Arg, ArgAction, Command};
@@ -9,6 +9,9 @@ use std::alloc::{AllocError, Global};
 
 /// The number of the last entry that a log can have; a greater one is a mistake.
 const LAST_ENTRY: u64 = 999_999_999;
+
+/// The version of the logs that begin with a state.
+const FRONT_VERSION: u64 = 3;
 
 /// The most entries that a journal makes room for; more are a mistake.
 const MOST_ROOM: u64 = 1_000_000;
@@ -363,7 +366,9 @@ fn verify_command<'a>(alloc: Global) -> Result<Command<'a>, AllocError>
     let command = ruled_command(alloc, "verify", about)?;
     let help =
         "Takes a log without its last line too, which comes when the warehouse is closed: `run N unended`";
-    with_switch(alloc, command, "unended", help)
+    let command = with_switch(alloc, command, "unended", help)?;
+    let help = "Takes logs of version 3 too, which begin with a state";
+    with_number(alloc, command, "wlog", FRONT_VERSION, FRONT_VERSION, help)
 }
 
 // The command with the subcommand `verify`.
@@ -398,6 +403,28 @@ fn with_serve<'a>(alloc: Global, command: Command<'a>) -> Result<Command<'a>, Al
     command.subcommand(serve)
 }
 
+/// The subcommand `state`.
+pub(crate) fn state_command<'a>(alloc: Global) -> Result<Command<'a>, AllocError>
+    ensures { IfOk result IsStateCommand }
+{
+    let about =
+        "To go on elsewhere: writes the state to which a log leads, as the front of a next log (input: map, points)";
+    let command = ruled_command(alloc, "state", about)?;
+    let help = "Reads the log of the run in FILE, and changes no file [always needed]";
+    let command = with_file(alloc, command, "log", help)?;
+    let help =
+        "Tells the state after N entries, counted from the opening, 0 to 999999999 [default: after all]";
+    with_number(alloc, command, "after", 0, LAST_ENTRY, help)
+}
+
+// The command with the subcommand `state`.
+fn with_state<'a>(alloc: Global, command: Command<'a>) -> Result<Command<'a>, AllocError>
+    ensures { IfOk result (AddsState command.entry) }
+{
+    let state = state_command(alloc)?;
+    command.subcommand(state)
+}
+
 // The program's command line before its subcommands.
 fn bare_command<'a>(alloc: Global) -> Command<'a>
     ensures { app_of result ≡ with_settings (new_app (codes "warehouse")) }
@@ -422,5 +449,6 @@ pub(crate) fn warehouse_command<'a>(alloc: Global) -> Result<Command<'a>, AllocE
     let command = with_replay(alloc, command)?;
     let command = with_verify(alloc, command)?;
     let command = with_live(alloc, command)?;
-    with_serve(alloc, command)
+    let command = with_serve(alloc, command)?;
+    with_state(alloc, command)
 }

@@ -15,7 +15,7 @@ mod refused;
 
 pub use chosen::{
     CheckOptions, Fleet, LiveOptions, Options, PlannerKind, ReplayOptions, Replies, ServeOptions,
-    Tail, VehicleOptions, VerifyOptions,
+    StateOptions, Tail, VehicleOptions, VerifyOptions,
 };
 pub use read::options;
 pub use refused::{Refusal, refusal_of};

@@ -5,7 +5,7 @@ ghost use Rattle.clap.specs.Words.{first_value, found_of, kind_of};
 ghost use Rattle.wh_options.specs.Options.{BoundsPatient, ReplayClashes, ReplayLacks, covers, is_patient};
 ghost use Rattle.wh_options.specs.Reads.{Judges, JudgesReplay, JudgesServe, kind_of_mistake};
 
-use crate::command::{live_command, replay_command, serve_command};
+use crate::command::{live_command, replay_command, serve_command, state_command};
 use clap::error::ErrorKind;
 use clap::{ArgMatches, Command, Error};
 use std::alloc::{AllocError, Global};
@@ -25,6 +25,8 @@ pub(crate) enum Mistake {
     BoardEveryWithoutBoard,
     /// A service, and no log.
     ServeWithoutLog,
+    /// The state to which a log leads, and no log.
+    StateWithoutLog,
     /// A service, and no clients.
     ServeWithoutClient,
     /// A board in a file of the log.
@@ -58,6 +60,7 @@ impl Mistake {
                 "the argument '--board-every <N>' needs '--board <FILE>'"
             }
             Mistake::ServeWithoutLog => "'serve' needs '--log <FILE>'",
+            Mistake::StateWithoutLog => "'state' needs '--log <FILE>'",
             Mistake::ServeWithoutClient => "'serve' needs at least one '--client <CLIENT>'",
             Mistake::BoardCoversLog => {
                 "the argument '--board <FILE>' cannot be used with '--log <FILE>' where the board would replace the log, or FILE.site or FILE.at beside it"
@@ -91,6 +94,7 @@ impl Mistake {
             | Mistake::AheadWithoutVehicles
             | Mistake::BoardEveryWithoutBoard
             | Mistake::ServeWithoutLog
+            | Mistake::StateWithoutLog
             | Mistake::ServeWithoutClient => ErrorKind::MissingRequiredArgument,
             Mistake::BoardCoversLog
             | Mistake::DeliverWithVehicles
@@ -119,6 +123,7 @@ impl Mistake {
             Mistake::SlackOfPatientLive | Mistake::EffortOfPatientLive => {
                 live_command(alloc)?.bin_name("warehouse live")
             }
+            Mistake::StateWithoutLog => state_command(alloc)?.bin_name("warehouse state"),
             _ => serve_command(alloc)?.bin_name("warehouse serve"),
         }
     }

@@ -5,11 +5,11 @@ ghost use Rattle.wh_client.specs.Clients.{GiveClients};
 ghost use Rattle.wh_client.specs.declared.client.ClientOptions.{ClientOptions};
 ghost use Rattle.wh_options.specs.Options.{AreSame, IsAmiss, IsClashing, IsClientless, IsLacking, WordsGive};
 ghost use Rattle.wh_options.specs.Requests.{AsksBy, IsKind, help_flags, version_flags};
-ghost use Rattle.wh_options.specs.Reads.{IsTold, MayRead, Reads, ReadsFleet, ReadsLine, ReadsLive, ReadsNumber, ReadsReplay, ReadsServe, ReadsVehicles, clients_in, homes_of, kind_of_mistake, planner_of, replies_of, tail_of};
+ghost use Rattle.wh_options.specs.Reads.{IsTold, MayRead, Reads, ReadsFleet, ReadsLine, ReadsLive, ReadsNumber, ReadsReplay, ReadsServe, ReadsState, ReadsVehicles, clients_in, homes_of, kind_of_mistake, planner_of, replies_of, tail_of};
 
 use crate::chosen::{
     CheckOptions, Fleet, LiveOptions, Options, PlannerKind, ReplayOptions, Replies, ServeOptions,
-    Tail, VehicleOptions, VerifyOptions,
+    StateOptions, Tail, VehicleOptions, VerifyOptions,
 };
 use crate::command::warehouse_command;
 use crate::mistake::{Mistake, is_given, log_of_serve, mistake_of_live, mistake_of_replay};
@@ -210,6 +210,20 @@ fn read_serve<'a>(
     }
 }
 
+// What the matches of `state` say.
+fn read_state<'a>(state: &ArgMatches<'a>) -> Result<Options<'a>, Mistake>
+    ensures { ReadsState (first_value (found_of state.now)) result }
+{
+    match state.get_str("log") {
+        Some(log) => Ok(Options::State(StateOptions {
+            log,
+            after: number_if_given(state, "after"),
+            homes: homes(state),
+        })),
+        None => Err(Mistake::StateWithoutLog),
+    }
+}
+
 // What the matches of `check` say, where it was entered.
 fn check_options(matches: &ArgMatches<'_>) -> CheckOptions
     ensures { (name : Text) (rows : List Row) → subcommand_rows_of matches.now ≡ Some (name, rows)
@@ -254,7 +268,11 @@ fn read_options<'a>(
         return Ok(Ok(Options::Verify(VerifyOptions {
             homes: homes(verify),
             unended: is_given(verify, "unended"),
+            wlog: number_if_given(verify, "wlog"),
         })));
+    }
+    if let Some(state) = matches.subcommand_matches("state") {
+        return Ok(read_state(state));
     }
     Ok(Ok(Options::Check(check_options(matches))))
 }

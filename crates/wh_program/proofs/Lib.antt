@@ -3,3 +3,4 @@ pub mod Whole
 mod Late
 mod Screens
 mod Opened
+mod Stated

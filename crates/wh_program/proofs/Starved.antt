@@ -7,7 +7,7 @@ use Rattle.wh_grid.specs.Grids.{Floor}
 use Rattle.wh_lines.specs.Input.{Input}
 use Rattle.wh_edge.specs.declared.trouble.Trouble.TheVariants as trouble
 use Rattle.wh_options.specs.declared.chosen.Options.{Options}
-use Rattle.wh_options.specs.declared.chosen.Options.TheVariants.{Check, Replay, Verify, Live, Serve}
+use Rattle.wh_options.specs.declared.chosen.Options.TheVariants.{Check, Replay, Verify, Live, Serve, State}
 use Rattle.wh_options.specs.declared.chosen.ReplayOptions.{ReplayOptions}
 use Rattle.wh_options.specs.declared.chosen.VehicleOptions.{VehicleOptions}
 use Rattle.wh_convoy.specs.Convoys.{Held}
@@ -37,8 +37,9 @@ module _ {X : Type 0} (fits : X → Floor → Bool) (count : X → ℕ) (gives :
   starved remaining contents report none (Check o) = (None, refl, ((tt, Keeps-refl had), none))
   starved remaining contents report none (Verify o) = (None, refl, (Keeps-refl had, none))
   starved remaining contents report none (Live o) = (None, refl, (inl (tt, Keeps-refl had), none))
-  starved remaining contents report none (Serve o) = (None, refl, (inl (refl, refl, Keeps-refl had), none))
+  starved remaining contents report none (Serve o) = (None, refl, ((refl, inl (refl, refl)), none))
   starved remaining contents report none (Replay o) = over o report o.log
+  starved remaining contents report none (State o) = (None, refl, ((None, Keeps-refl had), none))
 
   -- the same with vehicles
   late_over : {N : Type 0} (o : ReplayOptions) (pace : VehicleOptions) (log : Option N) →

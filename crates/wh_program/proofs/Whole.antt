@@ -19,7 +19,7 @@ use Rattle.wh_client.specs.declared.client.ClientOptions.{ClientOptions}
 use Rattle.wh_options.specs.declared.chosen.ReplayOptions.{ReplayOptions}
 use Rattle.wh_options.specs.declared.chosen.VehicleOptions.{VehicleOptions}
 use Rattle.wh_options.specs.declared.chosen.Options.{Options}
-use Rattle.wh_options.specs.declared.chosen.Options.TheVariants.{Check, Replay, Verify, Live, Serve}
+use Rattle.wh_options.specs.declared.chosen.Options.TheVariants.{Check, Replay, Verify, Live, Serve, State}
 use Rattle.wh_options.specs.declared.refused.Refusal.{Refusal}
 use Rattle.wh_options.specs.declared.refused.Refusal.TheVariants as refusal
 use Rattle.wh_service.specs.Fleets.{IsOfFleet}
@@ -85,6 +85,7 @@ in_range words (Replay o) gives =
       some_ahead (value_of (codes "vehicles") gives.1) o.vehicles v.pace v.is (one_ahead (value_of (codes "ahead") gives.1) v.pace.ahead v.ahead),
     )
 in_range words (Verify o) gives = tt
+in_range words (State o) gives = tt
 in_range words (Live o) gives = ranged (value_of (codes "slots") gives.1) o.fleet.slots gives.3.0.1.fleet.slots
 in_range words (Serve o) gives = (
   ranged (value_of (codes "slots") gives.1) o.fleet.slots gives.3.0.1.fleet.slots,

@@ -1,7 +1,6 @@
 -- What `serve` comes to, over the files and the folders that the options name.
 use Rattle.std.specs.Prelude.{◌≡◌, ◌≢◌, ◌⊎◌, ℕ, Bool, List, length, All, Option, None, Some, Result, Ok, Err}
 use Rattle.std.specs.declared.alloc.AllocError.{AllocError}
-use Rattle.std.specs.Io.KnownBytes.{Keeps}
 use Rattle.wh_lines.specs.Input.{Input}
 use Rattle.wh_grid.specs.Grids.{Floor}
 use Rattle.wh_client.specs.declared.client.ClientOptions.{ClientOptions}
@@ -33,16 +32,17 @@ pub record AreFolders (clients : List ClientOptions) (folders : List (Option Tex
 -- what a planner returns, gives what makes it, remaining and contents what a client's reader and writer tell; showed is what the screen told before, if
 -- there is one, and shows what it tells then.
 abbrev pub AttendsOver : {R W X : Type 0} → (X → Floor → Bool) → (X → ℕ) → (PlannerParts → Result X AllocError → Type 0) → (R → Option (List ℕ)) → (W → Option (List ℕ)) → ServeOptions → (file : Option (List ℕ)) → Siding
-    → (showed shows : Option (Option (List (List ℕ)))) → Result Status Trouble → (old new : Input) → (had has : Option (List ℕ)) → Type 0
-AttendsOver fits count gives remaining contents o file beside showed shows (Ok status) old new had has =
-    (status ≡ Done) × ((synced holds : Option (List ℕ)) × Attends fits count remaining contents gives o old new had has file synced holds beside showed shows)
-AttendsOver fits count gives remaining contents o file beside showed shows (Err told) old new had has =
-    (left : Option (Option (List ℕ))) × IsWhyUnattended fits count remaining contents gives o told old new had has file left beside showed shows
+    → (showed shows : Option (Option (List (List ℕ)))) → Result Status Trouble → (old new : Input) → Type 0
+AttendsOver fits count gives remaining contents o file beside showed shows (Ok status) old new =
+    (status ≡ Done) × ((synced holds : Option (List ℕ)) × Attends fits count remaining contents gives o old new file synced holds beside showed shows)
+AttendsOver fits count gives remaining contents o file beside showed shows (Err told) old new =
+    (left : Option (Option (List ℕ))) × IsWhyUnattended fits count remaining contents gives o told old new file left beside showed shows
 
--- `serve` came to this: memory ran out for names or for the doors, and nothing was read or written; or it was so,
--- over a log file and the one beside it, and over the file of the board, if one is named.
+-- `serve` came to this, and nothing was written to the output: memory ran out for names or for the doors, and nothing was read; or it was
+-- so, over a log file and the one beside it, and over the file of the board, if one is named.
 abbrev pub Attended : {R W X : Type 0} → (X → Floor → Bool) → (X → ℕ) → (PlannerParts → Result X AllocError → Type 0) → (R → Option (List ℕ)) → (W → Option (List ℕ))
     → ServeOptions → Result Status Trouble → (old new : Input) → (had has : Option (List ℕ)) → Type 0
 Attended fits count gives remaining contents o came old new had has =
-    ((came ≡ Err trouble.NoMemory) × (new ≡ old) × Keeps had has)
-    ⊎ ((file : Option (List ℕ)) × (beside : Siding) × (shows : Option (Option (List (List ℕ)))) × AttendsOver fits count gives remaining contents o file beside (silent o.board) shows came old new had has)
+    (has ≡ had)
+    × (((came ≡ Err trouble.NoMemory) × (new ≡ old))
+    ⊎ ((file : Option (List ℕ)) × (beside : Siding) × (shows : Option (Option (List (List ℕ)))) × AttendsOver fits count gives remaining contents o file beside (silent o.board) shows came old new))

@@ -3,7 +3,7 @@ use Rattle.std.specs.Prelude.{◌≡◌, ◌⊎◌, ℕ, Bool, true, false, List
 use Rattle.wh_edge.specs.declared.trouble.Trouble.{Trouble}
 use Rattle.wh_edge.specs.declared.trouble.Trouble.TheVariants as trouble
 use Rattle.wh_options.specs.declared.chosen.Options.{Options}
-use Rattle.wh_options.specs.declared.chosen.Options.TheVariants.{Check, Replay, Verify, Live, Serve}
+use Rattle.wh_options.specs.declared.chosen.Options.TheVariants.{Check, Replay, Verify, Live, Serve, State}
 use Rattle.wh_options.specs.declared.chosen.VehicleOptions.{VehicleOptions}
 use Rattle.wh_convoy.specs.Standing.{IsDriven}
 
@@ -14,6 +14,7 @@ names_run (Replay o) = is_some o.log
 names_run (Verify o) = false
 names_run (Live o) = false
 names_run (Serve o) = true
+names_run (State o) = false
 
 -- The file of arrivals was read, and has no line but the one with which it is begun, if that: no vehicle has carried the run out. A file
 -- that tells its bytes was read as it was.

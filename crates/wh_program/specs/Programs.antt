@@ -1,5 +1,5 @@
 -- What the whole program comes to: from its words and its input to its output and its status.
-use Rattle.std.specs.Prelude.{◌≡◌, ◌≢◌, ◌⊎◌, ◌≤◌, ℕ, Bool, MatchBool, List, [], ◌∷◌, false, IfSome, Option, Some, None, is_some, option_map, Result, Ok, Err}
+use Rattle.std.specs.Prelude.{◌≡◌, ◌≢◌, ◌⊎◌, ◌≤◌, ℕ, Bool, MatchBool, List, [], ◌∷◌, false, IfErr, IfSome, Option, Some, None, is_some, option_map, Result, Ok, Err}
 use Rattle.std.specs.declared.alloc.AllocError.{AllocError}
 use Rattle.std.specs.Io.KnownBytes.{Keeps}
 use Rattle.wh_lines.specs.Input.{Input}
@@ -15,9 +15,10 @@ use Rattle.wh_options.specs.Setting.{Text}
 use Rattle.wh_options.specs.declared.chosen.CheckOptions.{CheckOptions}
 use Rattle.wh_options.specs.declared.chosen.LiveOptions.{LiveOptions}
 use Rattle.wh_options.specs.declared.chosen.Options.{Options}
-use Rattle.wh_options.specs.declared.chosen.Options.TheVariants.{Check, Replay, Verify, Live, Serve}
+use Rattle.wh_options.specs.declared.chosen.Options.TheVariants.{Check, Replay, Verify, Live, Serve, State}
 use Rattle.wh_options.specs.declared.chosen.ReplayOptions.{ReplayOptions}
 use Rattle.wh_options.specs.declared.chosen.ServeOptions.{ServeOptions}
+use Rattle.wh_options.specs.declared.chosen.StateOptions.{StateOptions}
 use Rattle.wh_service.specs.Checks.{IsWhyUnjudged, Judges}
 use Rattle.wh_live.specs.Hosts.{HostsTo, IsWhyUnhosted}
 use Rattle.wh_options.specs.declared.chosen.VehicleOptions.{VehicleOptions}
@@ -31,6 +32,7 @@ use Rattle.wh_service.specs.declared.convoys.DriveTrouble.TheVariants.{Plain}
 use Rattle.wh_service.specs.Kept.{IsWhyUnkept, ServesKept, Siding}
 use Rattle.wh_service.specs.Plays.{form_of}
 use Rattle.wh_service.specs.Serves.{IsWhyUnserved, IsWhyUnservedByFleet, ServesByFleet}
+use Rattle.wh_service.specs.States.{IsWhyUnstated, States}
 use Rattle.wh_service.specs.Verifies.{IsWhyUnverified, Verifies}
 use Rattle.wh_service.specs.declared.parts.PlannerParts.{PlannerParts}
 use Rattle.wh_attend.specs.Guests.{AreNamed}
@@ -45,6 +47,7 @@ HasRange (Replay o) = IsOfFleet o.fleet × IfSome o.vehicles (λ pace. 1 ≤ pac
 HasRange (Verify o) = Unit {0}
 HasRange (Live o) = IsOfFleet o.fleet
 HasRange (Serve o) = IsOfFleet o.fleet × AreNamed o.clients.items
+HasRange (State o) = Unit {0}
 
 -- how vehicles carry out the plan, where the options say that they do so at their own pace
 abbrev pub pace_of : Options → Option VehicleOptions
@@ -60,6 +63,15 @@ Checked o (Err told) old new had has = IsWhyUnjudged o.homes told old new had ha
 abbrev pub Verified : VerifyOptions → Result Status Trouble → Input → Input → Option (List ℕ) → Option (List ℕ) → Type 0
 Verified o (Ok status) old new had has = Verifies o old new had has status
 Verified o (Err told) old new had has = IsWhyUnverified o told old new had has
+
+-- `state` over a file that told this came to this
+abbrev pub StatedOver : StateOptions → (file : Option (List ℕ)) → Result Status Trouble → Input → Input → Option (List ℕ) → Option (List ℕ) → Type 0
+StatedOver o file (Ok status) old new had has = States o old new had has file status
+StatedOver o file (Err told) old new had has = IsWhyUnstated o told old new had has file
+
+-- it was so over the file that the options name
+abbrev pub Stated : StateOptions → Result Status Trouble → Input → Input → Option (List ℕ) → Option (List ℕ) → Type 0
+Stated o came old new had has = (file : Option (List ℕ)) × StatedOver o file came old new had has
 
 -- `live` came to this. Here and below fits and count say what a planner returns, and gives what makes it.
 abbrev pub Lived : {X : Type 0} → (X → Floor → Bool) → (X → ℕ) → (PlannerParts → Result X AllocError → Type 0) → LiveOptions → Result Status Trouble
@@ -109,6 +121,7 @@ Did fits count gives guests (Verify o) files came report old new had has = Verif
 Did fits count gives guests (Live o) files came report old new had has = Lived fits count gives o came old new had has × (report ≡ [])
 Did fits count gives guests (Serve o) files came report old new had has = guests o came old new had has × (report ≡ [])
 Did fits count gives guests (Replay o) files came report old new had has = ReplayedOver fits count gives o files came report old new had has
+Did fits count gives guests (State o) files came report old new had has = Stated o came old new had has × (report ≡ [])
 
 -- whether the options name a log file
 abbrev pub names_file : Options → Bool

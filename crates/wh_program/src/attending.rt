@@ -1,6 +1,6 @@
 //! `serve`, over the files and the doors that the options name.
 
-ghost use Rattle.std.specs.Prelude.{IfOk, map, option_map};
+ghost use Rattle.std.specs.Prelude.{ℕ, List, Option, IfOk, map, option_map};
 ghost use Rattle.wh_service.specs.Fleets.{IsOfFleet};
 ghost use Rattle.wh_attend.specs.Guests.{AreNamed};
 ghost use Rattle.wh_program.specs.Attending.{AreFolders, AttendsOver, Attended, IsFolderAt};
@@ -58,14 +58,12 @@ fn attend_over<
     D: Doors<I, Q> + Hall,
     V: Screen + Send + Drop,
     R: Read,
-    W: Write,
     P: Planner,
     F: Fn(PlannerParts) -> Result<P, AllocError>,
 >(
     rt: &T,
     alloc: Global,
     lines: &mut Lines<R>,
-    output: &mut W,
     options: &ServeOptions<'_>,
     file: L,
     beside: &mut B,
@@ -76,11 +74,9 @@ fn attend_over<
     requires range { IsOfFleet options.now.fleet }
     requires named { AreNamed options.now.clients.items }
     requires callable { F.IsAlwaysCallable make }
-    ensures { AttendsOver P.fits_map P.slot_count (F.post make) (λ x. I.remaining x) (λ x. Q.contents x) options.now (L.contents file) (record { before = B.contents beside.old; after = B.contents beside.new; synced = B.synced beside.new; failed = B.failed beside.new }) (option_map V.shown screen.old) (option_map V.shown screen.new) result lines.old lines.new (W.contents output.old) (W.contents output.new) }
+    ensures { AttendsOver P.fits_map P.slot_count (F.post make) (λ x. I.remaining x) (λ x. Q.contents x) options.now (L.contents file) (record { before = B.contents beside.old; after = B.contents beside.new; synced = B.synced beside.new; failed = B.failed beside.new }) (option_map V.shown screen.old) (option_map V.shown screen.new) result lines.old lines.new }
 {
-    match attend(
-        rt, alloc, lines, output, options, file, beside, screen, doors, make,
-    ) {
+    match attend(rt, alloc, lines, options, file, beside, screen, doors, make) {
         Ok(_file) => Ok(Status::Done),
         Err(Unattended { trouble, file }) => {
             drop(file);
@@ -95,7 +91,6 @@ pub(crate) fn attend_by_name<
     'a,
     T: Threads + Wait + Clock + Sync,
     R: Read,
-    W: Write,
     P: Planner,
     F: Fn(PlannerParts) -> Result<P, AllocError>,
 >(
@@ -103,14 +98,13 @@ pub(crate) fn attend_by_name<
     files: &'a HostRuntime,
     alloc: Global,
     lines: &mut Lines<R>,
-    output: &mut W,
     options: &ServeOptions<'a>,
     make: F,
 ) -> Result<Status, Trouble>
     requires range { IsOfFleet options.now.fleet }
     requires named { AreNamed options.now.clients.items }
     requires callable { F.IsAlwaysCallable make }
-    ensures { Attended P.fits_map P.slot_count (F.post make) ⟦<Inlet<'a, HostRuntime> as Read>⟧.remaining ⟦<BufWriter<Outlet> as Write>⟧.contents options.now result lines.old lines.new (W.contents output.old) (W.contents output.new) }
+    ensures { (told : Option (List ℕ)) → Attended P.fits_map P.slot_count (F.post make) ⟦<Inlet<'a, HostRuntime> as Read>⟧.remaining ⟦<BufWriter<Outlet> as Write>⟧.contents options.now result lines.old lines.new told told }
 {
     let Ok(site) = name_beside(alloc, options.log, ".site") else {
         return Err(Trouble::NoMemory);
@@ -130,7 +124,6 @@ pub(crate) fn attend_by_name<
         rt,
         alloc,
         lines,
-        output,
         options,
         file,
         &mut beside,

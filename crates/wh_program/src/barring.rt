@@ -34,7 +34,7 @@ fn run_name<'a>(options: &Options<'a>) -> Option<&'a str>
     match options {
         Options::Replay(options) => options.log,
         Options::Serve(options) => Some(options.log),
-        Options::Check(_) | Options::Verify(_) | Options::Live(_) => None,
+        Options::Check(_) | Options::Verify(_) | Options::Live(_) | Options::State(_) => None,
     }
 }
 

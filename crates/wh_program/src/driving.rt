@@ -27,7 +27,8 @@ pub(crate) fn late<'a>(options: &Options<'a>) -> Option<(ReplayOptions<'a>, Vehi
             Some(pace) => Some((*replay, pace)),
             None => None,
         },
-        Options::Check(_) | Options::Verify(_) | Options::Live(_) | Options::Serve(_) => None,
+        Options::Check(_) | Options::Verify(_) | Options::Live(_) => None,
+        Options::Serve(_) | Options::State(_) => None,
     }
 }
 

@@ -8,6 +8,7 @@ mod attending;
 mod barring;
 mod driving;
 mod running;
+mod stating;
 
 pub use running::{end, run};
 

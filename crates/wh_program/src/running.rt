@@ -11,6 +11,7 @@ ghost use Rattle.wh_service.specs.Serves.{ended_by};
 use crate::attending::attend_by_name;
 use crate::barring::{Bar, let_begin};
 use crate::driving::{drive_over, end_drive, late};
+use crate::stating::state_by_name;
 use std::alloc::{AllocError, Global};
 use std::convert::AsStr;
 use std::fmt::Display;
@@ -44,7 +45,8 @@ fn log_name<'a>(options: &Options<'a>) -> Option<&'a str>
 {
     match options {
         Options::Replay(options) => options.log,
-        Options::Check(_) | Options::Verify(_) | Options::Live(_) | Options::Serve(_) => None,
+        Options::Check(_) | Options::Verify(_) | Options::Live(_) => None,
+        Options::Serve(_) | Options::State(_) => None,
     }
 }
 
@@ -190,7 +192,8 @@ fn obey<
         Options::Verify(options) => wh_service::verify(alloc, lines, output, *options),
         Options::Replay(options) => replay(alloc, lines, output, options, kept, report, make),
         Options::Live(options) => live(rt, alloc, lines, output, options, make),
-        Options::Serve(options) => attend_by_name(rt, files, alloc, lines, output, options, make),
+        Options::Serve(options) => attend_by_name(rt, files, alloc, lines, options, make),
+        Options::State(options) => state_by_name(files, alloc, lines, output, options),
     }
 }
 
@@ -296,7 +299,7 @@ fn decline<W: Write, E: Write, X: Display>(
     ended(refusal, is_shown)
 }
 
-/// The status that tells the outcome. A trouble is told by a line on standard error, as far as that can be written.
+/// The status that tells the outcome. A trouble is told by its text on standard error, as far as that can be written.
 pub fn end<E: Write>(errors: &mut E, came: Result<Status, Trouble>) -> Status
     ensures { Ends came result (E.contents errors.old) (E.contents errors.new) }
 {
@@ -345,7 +348,8 @@ fn bar_out<E: Write>(errors: &mut E, bar: Bar) -> Status
 }
 
 /// Does what the words ask for, over this input: the first word is the program's name. `make` makes one planner of its parts, and
-/// fails only when out of memory. Returns the exit status; one line on standard error says what stopped it.
+/// fails only when out of memory. Returns the exit status; a line on standard error says what stopped it, and where that is the front of
+/// a log, one before it says why.
 /// All files and pipes lie where `files` finds them: it is the process's own, since of what is handed to threads
 /// nothing may rest on a bound that is assumed of the caller's thread alone.
 #[tactic(auto, using(crate::proofs::Whole::in_range))]

@@ -1,7 +1,8 @@
 -- A run with vehicles over its two files.
-use Rattle.std.proofs.Common.{◌≡◌, ◌≤◌, ℕ, Bool, List, length, inl, inr, refl, ◌∙◌, subst, sym, ap, Option, Result}
-use Rattle.std.specs.Prelude.{IfSome, true}
+use Rattle.std.proofs.Common.{◌≡◌, ℕ, Bool, List, inl, inr, refl, ◌∙◌, subst, sym, ap, Option, None, Result}
+use Rattle.std.specs.Prelude.{true}
 use Rattle.std.specs.declared.alloc.AllocError.{AllocError}
+use Rattle.std.specs.Io.KnownBytes.{Appends}
 use Rattle.std.proofs.KnownBytes.{Keeps-refl}
 use Rattle.wh_grid.specs.Grids.{Floor}
 use Rattle.wh_points.specs.Points.{Site}
@@ -9,7 +10,7 @@ use Rattle.wh_points.specs.Formed.{IsFormed}
 use Rattle.wh_lines.specs.Input.{Input}
 use Rattle.wh_replay.specs.declared.asker.Asker.{Asker}
 use Rattle.wh_core.specs.States.{State}
-use Rattle.wh_core.specs.Laws.{IsOpening}
+use Rattle.wh_core.specs.Laws.{IsBeginningOnTheirWays, IsOpening}
 use Rattle.wh_core.specs.Steps.{Run}
 use Rattle.wh_judge.specs.Drafts.{AllServed, Seen}
 use Rattle.wh_drive.specs.Drives.{Drive}
@@ -21,14 +22,18 @@ use Rattle.wh_edge.specs.declared.trouble.Trouble.{Trouble}
 use Rattle.wh_options.specs.declared.chosen.Fleet.{Fleet}
 use Rattle.wh_options.specs.declared.chosen.Tail.{Tail}
 use Rattle.wh_options.specs.declared.chosen.VehicleOptions.{VehicleOptions}
+use Rattle.wh_resume.specs.declared.recovery.Preface.{Preface}
+use Rattle.wh_continue.proofs.Opened.{start_opening}
+use Rattle.wh_continue.specs.Again.{CanTellAgain}
 use Rattle.wh_continue.specs.Besides.{StandsBeside}
 use Rattle.wh_continue.specs.Opening.{IsOpened, IsWhyNotBoth}
 use Rattle.wh_continue.specs.Running.{Opens}
 use Rattle.wh_continue.specs.declared.running.KeepFault.{KeepFault}
 use Rattle.wh_continue.specs.declared.beside.Beside.{Beside}
 use Rattle.wh_continue.specs.declared.starting.Start.{Start}
+use Rattle.wh_convoy.specs.Beginning.{BeginsArrivals, first_line}
 use Rattle.wh_convoy.specs.Convoys.{Held, depot}
-use Rattle.wh_convoy.specs.Riding.{RidesOn, RidesToEnd}
+use Rattle.wh_convoy.specs.Riding.{RidesFrom, RidesOn, RidesToEnd}
 use Rattle.wh_convoy.specs.declared.finding.Stood.{Stood}
 use Rattle.wh_dispatch.proofs.Kept.{kept_is_served}
 use Rattle.wh_service.specs.Convoys.{GoesOn, GoesToEnd, IsWhyNoConvoy, IsWhyNotOn, IsWhyUnconvoyed, ServesConvoy, StandsOver, StartsConvoy}
@@ -36,7 +41,8 @@ use Rattle.wh_service.specs.Kept.{HasLog, IsSeated, IsSet, Siding, StartsFrom, f
 use Rattle.wh_service.specs.declared.convoys.DriveTrouble.{DriveTrouble}
 use Rattle.wh_service.specs.declared.convoys.DriveTrouble.TheVariants.{Plain}
 use Rattle.wh_service.specs.declared.parts.PlannerParts.{PlannerParts}
-use Rattle.wh_service.proofs.Lasting.{start_site, told_before}
+use Rattle.wh_service.specs.Tails.{tail_behind}
+use Rattle.wh_service.proofs.Lasting.{before_of_begun, counts_before, preface_of_begun, start_site, told_before}
 
 abbrev record_of : Option (List ℕ) → Option (List ℕ) → Held
 record_of log arrivals = record { log = log; arrivals = arrivals }
@@ -59,8 +65,8 @@ module _ {X : Type 0} (fits : X → Floor → Bool) (count : X → ℕ) (asker :
 
 module _ {X : Type 0} (fits : X → Floor → Bool) (count : X → ℕ) (asker : Asker) (again : Option ℕ) (bound : ℕ) (before after : Input) (start : Start) (stands : Stood) (spares rest : List X)
     (some : SomeInStep start.book stands.order) (final : Seen) (crew : Crew) (had replied : Option (List ℕ)) (files holds synced : Held)
-    (runs : RidesOn fits count asker again bound before after start.book stands spares final rest crew had replied files holds synced)
-    (opening : IsOpening start.book.site start.book.opening) (run : Run final.site final.opening final.history final.state) (served : IsFormed final.site → AllServed final.history) where
+    (runs : RidesOn fits count asker again bound before after start stands spares final rest crew had replied files holds synced)
+    (begins : IsBeginningOnTheirWays final.site final.opening) (run : Run final.site final.opening final.history final.state) (served : IsFormed final.site → AllServed final.history) where
   pub goes_to_end : GoesToEnd fits count asker again bound before after start stands spares final crew had replied files holds synced
   goes_to_end =
       let r = runs.rides some.0 some.1 in
@@ -71,19 +77,19 @@ module _ {X : Type 0} (fits : X → Floor → Bool) (count : X → ℕ) (asker :
         drive = r.rides.final;
         manned = r.rides.manned;
         site_is = same.0;
-        is_opening = subst (λ (s : Site). IsOpening s final.opening) (sym same.0) (subst (λ (o : State). IsOpening start.book.site o) (sym same.1) opening);
+        opening_is = same.1;
+        is_beginning = begins;
         run = run;
         served = served;
       }
 
 -- a run that went on once its log was begun went on from what stood before
 goes_before : {X : Type 0} (fits : X → Floor → Bool) (count : X → ℕ) (asker : Asker) (tail : Tail) (again : Option ℕ) (bound : ℕ) (before after : Input) (start begun : Start) (stands : Stood) (spares : List X)
-    (had has : Option (List ℕ)) (files : Held) (held : Option (List ℕ)) (holds synced : Held) (left : ℕ) → begun.book ≡ start.book → IsOpened start begun files.log held
+    (had has : Option (List ℕ)) (files : Held) (held : Option (List ℕ)) (holds synced : Held) (left : ℕ) → begun.book ≡ start.book → begun.before ≡ start.before → begun.preface ≡ start.preface → IsOpened start begun files.log held
     → GoesOn fits count asker tail again bound before after begun stands spares had has (record_of held files.arrivals) holds synced left → GoesOn fits count asker tail again bound before after start stands spares had has files holds synced left
-goes_before {X} fits count asker tail again bound before after start begun stands spares had has files held holds synced left book_is opened on =
+goes_before {X} fits count asker tail again bound before after start begun stands spares had has files held holds synced left book_is before_is preface_is opened on =
     let g = on.goes in
-    let ran : RidesOn fits count asker again bound before after start.book stands spares on.final g.rest on.crew had on.replied (record_of held files.arrivals) holds synced =
-    subst (λ (b : Seen). RidesOn fits count asker again bound before after b stands spares on.final g.rest on.crew had on.replied (record_of held files.arrivals) holds synced) book_is g.runs in
+    let ran = g.runs in
     record {
       final = on.final;
       crew = on.crew;
@@ -94,20 +100,21 @@ goes_before {X} fits count asker tail again bound before after start begun stand
           counted = ran.counted;
           begun = ran.begun;
           begins = record {
-            counts = record { counts = ran.begins.counts.counts; begins = told_before start begun files.log held _ opened ran.begins.counts.begins };
-            arrivals = ran.begins.arrivals;
+            counts = counts_before again had ran.counted start begun files.log held ran.begun.log book_is before_is opened ran.begins.counts;
+            arrivals = subst (λ (p : Option Preface). BeginsArrivals (first_line p) stands.bytes files.arrivals ran.begun.arrivals) preface_is ran.begins.arrivals;
           };
-          rides = ran.rides;
+          rides = subst (λ (b : Seen). RidesFrom fits count asker bound before after b spares stands.order on.final g.rest on.crew ran.counted on.replied ran.begun holds synced) book_is ran.rides;
           whole = told_before start begun files.log held _ opened ran.whole;
         };
         drive = g.drive;
         manned = g.manned;
         site_is = g.site_is ∙ ap (λ (b : Seen). b.site) book_is;
-        is_opening = g.is_opening;
+        opening_is = g.opening_is ∙ ap (λ (b : Seen). b.opening) book_is;
+        is_beginning = g.is_beginning;
         run = g.run;
         served = g.served;
       };
-      follows = on.follows;
+      follows = subst (λ (p : Option Preface). Appends on.replied has (tail_behind p tail on.final.opening on.final.history on.final.state)) preface_is on.follows;
       left_is = on.left_is;
     }
 
@@ -115,14 +122,14 @@ module _ {X : Type 0} (fits : X → Floor → Bool) (count : X → ℕ) (asker :
     (old between : Input) (files : Held) (beside : Siding) (site : Site) (start : Start) (stands : Stood) (planners spares : List X)
     (site_text : List ℕ) (site_read : SiteKept fleet.homes old between site site_text) (rule : site.layout.nofollow ≡ true)
     (found : Beside) (stands_beside : StandsBeside beside.before site_text found)
-    (from : StartsFrom fleet site files.log start) (has_log : HasLog anew found start) (within : IfSome again (λ (first : ℕ). first ≤ length start.book.history))
-    (m : ℕ) (ahead_is : m ≡ pace.ahead) (over : StandsOver start.book m files.arrivals stands)
+    (from : StartsFrom fleet site files.log start) (has_log : HasLog anew found start) (within : CanTellAgain again start)
+    (m : ℕ) (ahead_is : m ≡ pace.ahead) (over : StandsOver start m files.arrivals stands)
     (seated : IsSeated gives fleet site.grid start.book.state.slots planners spares) where
   abbrev starts : StartsConvoy gives fleet again anew pace.ahead old between files beside site start stands planners spares
   starts = record {
     starts = record { text = site_text; site_read = site_read; found = found; stands = stands_beside; starts = from; has_log = has_log; within = within; seated = seated };
     rule = rule;
-    over = subst (λ (n : ℕ). StandsOver start.book n files.arrivals stands) ahead_is over;
+    over = subst (λ (n : ℕ). StandsOver start n files.arrivals stands) ahead_is over;
   }
 
   -- the log was not begun, or the site not kept beside it
@@ -154,26 +161,41 @@ module _ {X : Type 0} (fits : X → Floor → Bool) (count : X → ℕ) (asker :
     held_is : held ≡ record_of held.log files.arrivals
     held_is = ap (λ (a : Option (List ℕ)). record_of held.log a) (still_arrivals ∙ ap (λ (h : Held). h.arrivals) same_files)
 
+    before_is : begun.before ≡ start.before
+    before_is = before_of_begun fleet site files.log files.log held.log start begun from opens_file
+
     set : IsSet beside site_text
     set = (subst (λ (b : Option (List ℕ)). Opens b beside.after site_text) still opens, safe)
 
+    -- a run that its log tells with no front began with an opening state
+    opening_on : (final : Seen) → final.site ≡ start.book.site → final.opening ≡ start.book.opening → IsBeginningOnTheirWays final.site final.opening → start.preface ≡ None → IsOpening site final.opening
+    opening_on final site_same opening_same begins none =
+        let on_site : IsBeginningOnTheirWays site final.opening = subst (λ (at : Site). IsBeginningOnTheirWays at final.opening) (site_same ∙ start_site site (first_slots fleet site) from.text start from.starts) begins in
+        subst (λ (o : State). IsOpening site o) (sym opening_same)
+        (start_opening site (first_slots fleet site) from.text start from.starts none (subst (λ (o : State). IsBeginningOnTheirWays site o) opening_same on_site))
+
     pub serves_convoy : (left : ℕ) → GoesOn fits count used tail again n between new begun stands spares had has held holds synced left
         → ServesConvoy fits count asker gives fleet tail again anew pace old new had has files holds synced beside left
-    serves_convoy left goes = record {
-      site = site;
-      between = between;
-      start = start;
-      stands = stands;
-      planners = planners;
-      spares = spares;
-      starts = starts;
-      site_is = start_site site (first_slots fleet site) from.text start from.starts;
-      is_set = set;
-      goes_on = goes_before fits count asker tail again pace.behind between new start begun stands spares had has files held.log holds synced left book_is opens_file
-          (subst (λ (h : Held). GoesOn fits count asker tail again pace.behind between new begun stands spares had has h holds synced left) held_is
-          (subst (λ (k : ℕ). GoesOn fits count asker tail again k between new begun stands spares had has held holds synced left) behind_is
-          (subst (λ (t : Asker). GoesOn fits count t tail again n between new begun stands spares had has held holds synced left) same goes)));
-    }
+    serves_convoy left goes =
+        let on : GoesOn fits count asker tail again pace.behind between new start stands spares had has files holds synced left =
+        goes_before fits count asker tail again pace.behind between new start begun stands spares had has files held.log holds synced left book_is before_is
+        (preface_of_begun fleet site files.log files.log held.log start begun from opens_file) opens_file
+        (subst (λ (h : Held). GoesOn fits count asker tail again pace.behind between new begun stands spares had has h holds synced left) held_is
+        (subst (λ (k : ℕ). GoesOn fits count asker tail again k between new begun stands spares had has held holds synced left) behind_is
+        (subst (λ (t : Asker). GoesOn fits count t tail again n between new begun stands spares had has held holds synced left) same goes))) in
+        record {
+          site = site;
+          between = between;
+          start = start;
+          stands = stands;
+          planners = planners;
+          spares = spares;
+          starts = starts;
+          site_is = start_site site (first_slots fleet site) from.text start from.starts;
+          is_set = set;
+          goes_on = on;
+          is_opening = opening_on on.final on.goes.site_is on.goes.opening_is on.goes.is_beginning;
+        }
 
     pub stops_convoy : (told : Trouble) (log_failed arrivals_failed : Bool) → IsWhyNotOn fits count used tail again n told between new begun stands planners spares had has held holds synced log_failed arrivals_failed
         → IsWhyUnconvoyed fits count asker gives fleet tail again anew pace (Plain told) old new had has files holds synced log_failed arrivals_failed beside

@@ -1,11 +1,12 @@
 -- A run over a log file.
 use Rattle.std.proofs.lemmas.Result.{IfErr-weaker}
-use Rattle.std.proofs.Common.{◌≡◌, ◌<◌, ◌≤◌, ◌+◌, ℕ, Bool, List, [], ◌∷◌, ◌++◌, length, take, get_or, refl, sym, ◌∙◌, subst, inl, inr, Option, None, Some, Result}
+use Rattle.std.proofs.Common.{◌≡◌, ◌<◌, ◌≤◌, ◌+◌, ◌-◌, ℕ, Bool, List, [], ◌∷◌, ◌++◌, length, take, drop, get_or, refl, ap, ap₂, sym, ◌∙◌, subst, inl, inr, Option, None, Some, Result}
 use Rattle.std.specs.Prelude.{MatchOption, OnOk, IfOk, IfErr, IfSome, true, slice_index}
 use Rattle.std.proofs.KnownBytes.{Keeps-refl}
 use Rattle.std.specs.Io.KnownBytes.{Appends}
 use Rattle.std.specs.declared.alloc.AllocError.{AllocError}
 use Rattle.std.proofs.lemmas.List.{take_more}
+use Rattle.std.proofs.Math.Seq.{take-length}
 use Rattle.std.proofs.lemmas.List.Elements.{Contains-get_or}
 use Rattle.std.proofs.lemmas.Slice.Zip.{all_zipped_more}
 use Rattle.wh_grid.specs.Grids.{Floor}
@@ -13,11 +14,16 @@ use Rattle.wh_points.specs.Points.{Site}
 use Rattle.wh_claims.specs.declared.bank.Bank.{Bank}
 use Rattle.wh_judge.specs.Drafts.{AllServed, Seen}
 use Rattle.wh_options.specs.declared.chosen.Fleet.{Fleet}
-use Rattle.wh_continue.specs.Starting.{Begins, GoesOnFrom, StartsIn}
+use Rattle.wh_journal.specs.Journals.{ReplaysJournaled, lines_for}
+use Rattle.wh_journal.specs.Surviving.{StaysLog}
+use Rattle.wh_resume.specs.declared.recovery.Preface.{Preface}
+use Rattle.wh_continue.specs.Again.{CanTellAgain}
+use Rattle.wh_continue.specs.Before.{Before}
+use Rattle.wh_continue.specs.Starting.{StartsAt, StartsIn, before_of, entries_so_far}
 use Rattle.wh_continue.specs.declared.starting.Start.{Start}
 use Rattle.wh_continue.specs.Besides.{StandsBeside}
 use Rattle.wh_continue.specs.Opening.{IsOpened, IsWhyNotBoth}
-use Rattle.wh_continue.specs.Running.{IsStartOf, Opens, RunsOn, StopsRun}
+use Rattle.wh_continue.specs.Running.{Counts, IsBegunFrom, IsStartOf, Opens, RunsOn, StopsRun, count_line, first_text, from_opening, log_from, opening_lines, told_again}
 use Rattle.wh_continue.specs.declared.running.KeepFault.{KeepFault}
 use Rattle.wh_continue.specs.declared.beside.Beside.{Beside}
 use Rattle.wh_edge.specs.Site.{SiteKept}
@@ -26,7 +32,7 @@ use Rattle.wh_edge.specs.declared.trouble.Trouble.TheVariants as trouble
 use Rattle.wh_service.specs.Fleets.{AreSeated, IsMember, IsWhyUnclaimed, IsWhyUnseated, with_slots}
 use Rattle.wh_service.specs.Kept.{HasLog, IsSeated, IsSet, IsWhyUnkept, ServesKept, Siding, StartsFrom, StartsOver, first_slots, keep_trouble, run_trouble}
 use Rattle.wh_deliver.proofs.Grown.{grows}
-use Rattle.wh_service.specs.Tails.{IsWhyNoTail, tail_after, told_open}
+use Rattle.wh_service.specs.Tails.{IsWhyNoTail, tail_behind, told_open}
 use Rattle.wh_service.proofs.Undelivered.{ok_joined}
 use Rattle.wh_replay.specs.declared.asker.Asker.{Asker}
 use Rattle.wh_log.specs.declared.version.Version.{Version}
@@ -58,21 +64,13 @@ unseated slots k trouble.NoMemory within few = tt
 unseated slots k told within few = absurd few
 
 -- the run starts on the site
-site_at : (site : Site) (slots text : List ℕ) (book : Seen) (version : Version) (bytes : Option ℕ)
-    → MatchOption bytes (Begins site slots text book) (λ (n : ℕ). GoesOnFrom site version text n book) → book.site ≡ site
-site_at site slots text book version None starts = starts.unbegun.site_is
-site_at site slots text book version (Some n) starts = starts.goes_on.site_is
+site_at : (site : Site) (slots text : List ℕ) (preface : Option Preface) (version : Version) (book : Seen) (bytes : Option ℕ) → StartsAt site slots text preface version book bytes → book.site ≡ site
+site_at site slots text preface version book None starts = starts.0.unbegun.site_is
+site_at site slots text None version book (Some n) starts = starts.goes_on.site_is
+site_at site slots text (Some preface) version book (Some n) starts = starts.1.1.site_is
 
 pub start_site : (site : Site) (slots text : List ℕ) (start : Start) → StartsIn site slots text start → start.book.site ≡ site
-start_site site slots text start starts = site_at site slots text start.book start.version start.bytes starts
-
--- what it starts from is a run from an opening
-pub opens_from : (fleet : Fleet) (site : Site) (file : Option (List ℕ)) (start : Start) → StartsFrom fleet site file start → IsBeginningOnTheirWays start.book.site start.book.opening →
-    IsOpening start.book.site start.book.opening
-opens_from fleet site file start from begins =
-    let at = start_site site (first_slots fleet site) from.text start from.starts in
-    subst (λ (s : Site). IsOpening s start.book.opening) (sym at)
-    (start_opening site (first_slots fleet site) from.text start from.starts (subst (λ (s : Site). IsBeginningOnTheirWays s start.book.opening) at begins))
+start_site site slots text start starts = site_at site slots text start.preface start.version start.book start.bytes starts.at
 
 starts_of : (fleet : Fleet) (site : Site) (start : Start) (file : Option (List ℕ)) → StartsFrom fleet site file start → IsStartOf file start
 starts_of fleet site start None from = tt
@@ -101,26 +99,85 @@ told_so (Some n) P Q file held lines X is x = subst (λ (h : Option (List ℕ)).
 pub told_before : (start begun : Start) (file held : Option (List ℕ)) (X : Type 0) → IsOpened start begun file held → IfSome held (λ _. X) → IfSome file (λ _. X)
 told_before start begun file held X is x = told_so start.bytes _ _ file held _ X is x
 
+-- what came before the entries, and what the front told, stay so once the log was begun
+module _ (site : Site) (slots text : List ℕ) (start begun : Start) (starts : StartsIn site slots text start) where
+  none_before : (bytes : Option ℕ) → bytes ≡ None → StartsAt site slots text start.preface start.version start.book bytes → start.preface ≡ None
+  none_before None is at = at.1
+  none_before (Some n) is at = absurd (cc (is))
+
+  same_preface : (file held : Option (List ℕ)) (bytes : Option ℕ) → start.bytes ≡ bytes → MatchOption bytes ((begun ≡ from_opening start.book) × Opens file held (opening_lines start.book)) (λ n. (begun ≡ start) × (held ≡ file)) → begun.preface ≡ start.preface
+  same_preface file held None is o = ap (λ (s : Start). s.preface) o.0 ∙ sym (none_before start.bytes is starts.at)
+  same_preface file held (Some n) is o = ap (λ (s : Start). s.preface) o.0
+
+  same_before : (file held : Option (List ℕ)) (bytes : Option ℕ) → start.bytes ≡ bytes → MatchOption bytes ((begun ≡ from_opening start.book) × Opens file held (opening_lines start.book)) (λ n. (begun ≡ start) × (held ≡ file)) → begun.before ≡ start.before
+  same_before file held None is o = ap (λ (s : Start). s.before) o.0 ∙ sym (starts.before_is ∙ ap before_of (none_before start.bytes is starts.at))
+  same_before file held (Some n) is o = ap (λ (s : Start). s.before) o.0
+
+pub preface_of_begun : (fleet : Fleet) (site : Site) (from_file file held : Option (List ℕ)) (start begun : Start) → StartsFrom fleet site from_file start → IsOpened start begun file held → begun.preface ≡ start.preface
+preface_of_begun fleet site from_file file held start begun from is = same_preface site (first_slots fleet site) from.text start begun from.starts file held start.bytes refl is
+
+-- what a run goes on over is the same, whether its log was begun before or since
+begun_at : (bytes : Option ℕ) (start begun : Start) (file held made : Option (List ℕ)) → start.bytes ≡ bytes
+    → MatchOption bytes ((begun ≡ from_opening start.book) × Opens file held (opening_lines start.book)) (λ _. (begun ≡ start) × (held ≡ file)) → IsBegunFrom begun held made → IsBegunFrom start file made
+begun_at None start begun None held made is o from = tt
+begun_at None start begun (Some text) held made is (begun_is, opens) from =
+    let at : IsBegunFrom (from_opening start.book) held made = subst (λ (s : Start). IsBegunFrom s held made) begun_is from in
+    let on : IsBegunFrom (from_opening start.book) (Some (opening_lines start.book)) made = subst (λ (h : Option (List ℕ)). IsBegunFrom (from_opening start.book) h made) opens at in
+    on ∙ ap (λ (l : List ℕ). Some l) (take-length (opening_lines start.book)) ∙ sym (ap (λ (b : Option ℕ). Some (log_from b start.version (opening_lines start.book) text)) is)
+begun_at (Some n) start begun file held made is (begun_is, same) from =
+    subst (λ (h : Option (List ℕ)). IsBegunFrom start h made) same (subst (λ (s : Start). IsBegunFrom s held made) begun_is from)
+
+pub before_of_begun : (fleet : Fleet) (site : Site) (from_file file held : Option (List ℕ)) (start begun : Start) → StartsFrom fleet site from_file start → IsOpened start begun file held → begun.before ≡ start.before
+before_of_begun fleet site from_file file held start begun from is = same_before site (first_slots fleet site) from.text start begun from.starts file held start.bytes refl is
+
+-- what was told and made before the script was so before its log was begun too
+pub counts_before : (again : Option ℕ) (had counted : Option (List ℕ)) (start begun : Start) (file held made : Option (List ℕ)) → begun.book ≡ start.book → begun.before ≡ start.before → IsOpened start begun file held
+    → Counts again begun had counted held made → Counts again start had counted file made
+counts_before again had counted start begun file held made book_is before_is is counts =
+    let so_far : entries_so_far begun ≡ entries_so_far start = ap₂ (λ (b : Before) (k : Seen). b.entries + length k.history) before_is book_is in
+    let text_is : first_text again begun ≡ first_text again start = ap₂ (λ (n : ℕ) (t : List ℕ). count_line n ++ t) so_far (again_same again) in
+    record {
+      counts = subst (λ (t : List ℕ). Appends had counted t) text_is counts.counts;
+      begins = told_before start begun file held _ is (subst (λ (b : Seen). StaysLog held made b) book_is counts.begins);
+      begun_is = begun_at start.bytes start begun file held made refl is counts.begun_is;
+    }
+  where
+    again_same : (a : Option ℕ) → told_again a begun ≡ told_again a start
+    again_same None = refl
+    again_same (Some first) = ap₂ (λ (b : Before) (k : Seen). lines_for (drop (first - b.entries) k.history)) before_is book_is
+
 -- a run that went on once its log was begun went on from what stood before
-pub runs_before : {X : Type 0} (fits : X → Floor → Bool) (count : X → ℕ) (asker : Asker) (again : Option ℕ) (deliver : Bool) (before after : Input) (book : Seen) (spares : List X) (new : Seen) (rest : List X) (had has : Option (List ℕ))
-    (start begun : Start) (file held synced holds : Option (List ℕ)) → IsOpened start begun file held
-    → RunsOn fits count asker again deliver before after book spares new rest had has held synced holds → RunsOn fits count asker again deliver before after book spares new rest had has file synced holds
-runs_before fits count asker again deliver before after book spares new rest had has start begun file held synced holds is ran = record {
-  counted = ran.counted;
-  begun = ran.begun;
-  counts = record { counts = ran.counts.counts; begins = told_before start begun file held _ is ran.counts.begins };
-  safe = ran.safe;
-  kept = ran.kept;
-  served = ran.served;
-  answered = ran.answered;
-  replays = ran.replays;
-  sure = ran.sure;
-  full = ran.full;
-  delivers = ran.delivers;
-  ends = ran.ends;
-  synced_is = ran.synced_is;
-  whole = told_before start begun file held _ is ran.whole;
-}
+pub runs_before : {X : Type 0} (fits : X → Floor → Bool) (count : X → ℕ) (asker : Asker) (again : Option ℕ) (deliver : Bool) (before after : Input) (spares : List X) (new : Seen) (rest : List X) (had has : Option (List ℕ))
+    (start begun : Start) (file held synced holds : Option (List ℕ)) → begun.book ≡ start.book → begun.before ≡ start.before → IsOpened start begun file held
+    → RunsOn fits count asker again deliver before after begun spares new rest had has held synced holds → RunsOn fits count asker again deliver before after start spares new rest had has file synced holds
+runs_before fits count asker again deliver before after spares new rest had has start begun file held synced holds book_is before_is is ran =
+    let again_is : told_again again begun ≡ told_again again start = again_same again in
+    let so_far : entries_so_far begun ≡ entries_so_far start = ap₂ (λ (b : Before) (k : Seen). b.entries + length k.history) before_is book_is in
+    let text_is : first_text again begun ≡ first_text again start = ap₂ (λ (n : ℕ) (t : List ℕ). count_line n ++ t) so_far again_is in
+    record {
+      counted = ran.counted;
+      begun = ran.begun;
+      counts = record {
+        counts = subst (λ (t : List ℕ). Appends had ran.counted t) text_is ran.counts.counts;
+        begins = told_before start begun file held _ is (subst (λ (b : Seen). StaysLog held ran.begun b) book_is ran.counts.begins);
+        begun_is = begun_at start.bytes start begun file held ran.begun refl is ran.counts.begun_is;
+      };
+      safe = ran.safe;
+      kept = ran.kept;
+      served = ran.served;
+      answered = ran.answered;
+      replays = subst (λ (b : Seen). ReplaysJournaled fits count asker before after b spares ran.served rest ran.counted ran.answered ran.begun ran.safe ran.kept) book_is ran.replays;
+      sure = ran.sure;
+      full = ran.full;
+      delivers = ran.delivers;
+      ends = ran.ends;
+      synced_is = ran.synced_is;
+      whole = told_before start begun file held _ is ran.whole;
+    }
+  where
+    again_same : (a : Option ℕ) → told_again a begun ≡ told_again a start
+    again_same None = refl
+    again_same (Some first) = ap₂ (λ (b : Before) (k : Seen). lines_for (drop (first - b.entries) k.history)) before_is book_is
 
 -- ---- what the whole call says
 
@@ -128,7 +185,7 @@ module _ {X : Type 0} (fits : X → Floor → Bool) (count : X → ℕ) (asker :
     (old between : Input) (file : Option (List ℕ)) (beside : Siding) (site : Site) (start : Start) (planners spares : List X)
     (site_text : List ℕ) (site_read : SiteKept fleet.homes old between site site_text)
     (found : Beside) (stands : StandsBeside beside.before site_text found)
-    (from : StartsFrom fleet site file start) (has_log : HasLog anew found start) (within : IfSome again (λ (first : ℕ). first ≤ length start.book.history))
+    (from : StartsFrom fleet site file start) (has_log : HasLog anew found start) (within : CanTellAgain again start)
     (slots : List ℕ) (slots_are : slots ≡ start.book.state.slots) (seated : IsSeated gives fleet site.grid slots planners spares) where
   abbrev starts : StartsOver gives fleet again anew old between file beside site start planners spares
   starts = record {
@@ -193,15 +250,18 @@ module _ {X : Type 0} (fits : X → Floor → Bool) (count : X → ℕ) (asker :
     ))))
 
     module _ (tail : Tail) {T : Type 0} (report : T → List ℕ) (said : Result T Trouble) (final : Seen) (replied : Option (List ℕ))
-        (ran : RunsOn fits count told_as again deliver between new begun.book spares final rest had replied held synced holds) where
-      runs : RunsOn fits count asker again deliver between new start.book spares final rest had replied file synced holds
-      runs = runs_before fits count asker again deliver between new start.book spares final rest had replied start begun file held synced holds opens_file
-          (subst (λ (b : Seen). RunsOn fits count asker again deliver between new b spares final rest had replied held synced holds) book_is
-          (subst (λ (t : Asker). RunsOn fits count t again deliver between new begun.book spares final rest had replied held synced holds) same ran))
+        (ran : RunsOn fits count told_as again deliver between new begun spares final rest had replied held synced holds) (preface : Option Preface) (preface_is : preface ≡ begun.preface) where
+      runs : RunsOn fits count asker again deliver between new start spares final rest had replied file synced holds
+      runs = runs_before fits count asker again deliver between new spares final rest had replied start begun file held synced holds book_is
+          (same_before site (first_slots fleet site) from.text start begun from.starts file held start.bytes refl opens_file) opens_file
+          (subst (λ (t : Asker). RunsOn fits count t again deliver between new begun spares final rest had replied held synced holds) same ran)
+
+      front_is : preface ≡ start.preface
+      front_is = preface_is ∙ same_preface site (first_slots fleet site) from.text start begun from.starts file held start.bytes refl opens_file
 
       -- it was, and what is to follow the replies does
       pub serves_kept : IsBeginningOnTheirWays final.site final.opening → Run final.site final.opening final.history final.state → (IsFormed final.site → AllServed final.history)
-          → OnOk said (Appends replied has (tail_after tail final.opening final.history final.state))
+          → OnOk said (Appends replied has (tail_behind preface tail final.opening final.history final.state))
           → IfOk said (λ t. report t ≡ told_open deliver final.state)
           → IfOk said (λ t. ServesKept fits count asker gives fleet deliver tail again anew old new had has file synced holds beside (report t))
       serves_kept opening run served follows tells =
@@ -221,18 +281,19 @@ module _ {X : Type 0} (fits : X → Floor → Bool) (count : X → ℕ) (asker :
             replied = replied;
             runs = runs;
             open_is = open_is;
-            follows = after;
+            follows = subst (λ (p : Option Preface). Appends replied has (tail_behind p tail final.opening final.history final.state)) front_is after;
             site_is = is;
-            is_opening = subst (λ (o : State). IsOpening site o) (sym same_opening) (start_opening site (first_slots fleet site) from.text start from.starts begins);
+            is_beginning = subst (λ (at : Site). IsBeginningOnTheirWays at final.opening) is opening;
+            is_opening = λ none. subst (λ (o : State). IsOpening site o) (sym same_opening) (start_opening site (first_slots fleet site) from.text start from.starts none begins);
             run = subst (λ (at : Site). Run at final.opening final.history final.state) is run;
             served = subst (λ (at : Site). IsFormed at → AllServed final.history) is served;
           }) follows tells
 
       -- or does not
-      pub without_tail : (failed : Bool) → IfErr said (λ (told : Trouble). IsWhyNoTail told replied has (tail_after tail final.opening final.history final.state))
+      pub without_tail : (failed : Bool) → IfErr said (λ (told : Trouble). IsWhyNoTail told replied has (tail_behind preface tail final.opening final.history final.state))
           → IfErr said (λ (told : Trouble). IsWhyUnkept fits count asker gives fleet deliver tail again anew told old new had has file failed synced holds beside)
       without_tail failed why =
-          IfErr-weaker said (λ (told : Trouble). IsWhyNoTail told replied has (tail_after tail final.opening final.history final.state))
+          IfErr-weaker said (λ (told : Trouble). IsWhyNoTail told replied has (tail_behind preface tail final.opening final.history final.state))
           (λ (told : Trouble). IsWhyUnkept fits count asker gives fleet deliver tail again anew told old new had has file failed synced holds beside)
           (λ (told : Trouble) w. inr (inr (inr (inr (record {
             site = site;
@@ -246,5 +307,5 @@ module _ {X : Type 0} (fits : X → Floor → Bool) (count : X → ℕ) (asker :
             final = final;
             replied = replied;
             runs = runs;
-            why = w;
+            why = subst (λ (p : Option Preface). IsWhyNoTail told replied has (tail_behind p tail final.opening final.history final.state)) front_is w;
           }))))) why

@@ -11,3 +11,4 @@ pub mod Drove
 mod Verdicts
 mod Convoyed
 mod Undelivered
+mod Unstated

@@ -1,7 +1,6 @@
 -- Why nothing was told of a log.
 use Rattle.std.proofs.Common.{ℕ, List, Option, inr}
 use Rattle.std.proofs.KnownBytes.{Keeps-refl}
-use Rattle.std.specs.Io.KnownBytes.{Keeps}
 use Rattle.wh_lines.specs.Input.{Input}
 use Rattle.wh_edge.specs.declared.trouble.Trouble.{Trouble}
 use Rattle.wh_edge.specs.declared.trouble.Trouble.TheVariants as trouble

@@ -1,5 +1,5 @@
 -- What `replay --vehicles` does over a log file and a file of arrivals.
-use Rattle.std.specs.Prelude.{◌≡◌, ◌⊎◌, ◌++◌, ◌∷◌, [], ℕ, Bool, true, false, List, Option, Result, IfSome, codes, decimal}
+use Rattle.std.specs.Prelude.{◌≡◌, ◌⊎◌, ◌++◌, ◌∷◌, [], ℕ, Bool, true, false, List, Option, None, Result, IfSome, codes, decimal}
 use Rattle.std.specs.List.{count_by}
 use Rattle.std.specs.declared.alloc.AllocError.{AllocError}
 use Rattle.std.specs.Io.KnownBytes.{Appends, Keeps}
@@ -8,7 +8,7 @@ use Rattle.wh_grid.specs.Grids.{Floor}
 use Rattle.wh_points.specs.Points.{Site}
 use Rattle.wh_points.specs.Formed.{IsFormed}
 use Rattle.wh_replay.specs.declared.asker.Asker.{Asker}
-use Rattle.wh_core.specs.Laws.{IsOpening}
+use Rattle.wh_core.specs.Laws.{IsBeginningOnTheirWays, IsOpening}
 use Rattle.wh_core.specs.Steps.{Run}
 use Rattle.wh_judge.specs.Drafts.{AllServed, Seen}
 use Rattle.wh_edge.specs.Site.{SiteKept, SiteFault}
@@ -36,7 +36,7 @@ use Rattle.wh_convoy.specs.declared.finding.Stood.{Stood}
 use Rattle.wh_convoy.specs.declared.finding.StoodFault.TheVariants as stood
 use Rattle.wh_service.specs.Kept.{IsSet, IsUnequipped, IsUntouched, IsWhyNoRun, Siding, StartsFrom, StartsOver, keep_trouble}
 use Rattle.wh_service.specs.Late.{trouble_of}
-use Rattle.wh_service.specs.Tails.{IsWhyNoTail, tail_after}
+use Rattle.wh_service.specs.Tails.{IsWhyNoTail, tail_behind}
 use Rattle.wh_service.specs.declared.convoys.DriveTrouble.{DriveTrouble}
 use Rattle.wh_service.specs.declared.convoys.DriveTrouble.TheVariants.{Plain, Arrivals, Astray}
 use Rattle.wh_service.specs.declared.parts.PlannerParts.{PlannerParts}
@@ -72,38 +72,39 @@ ride_trouble (ride.Script fault) = convoy_trouble fault
 ride_trouble (ride.End fault) = keep_trouble fault
 
 -- The file of arrivals was read, and by it vehicles stand so. A file that tells its bytes was read as it was.
-pub record StandsOver (book : Seen) (ahead : ℕ) (file : Option (List ℕ)) (stands : Stood) : Type 0 where
+pub record StandsOver (start : Start) (ahead : ℕ) (file : Option (List ℕ)) (stands : Stood) : Type 0 where
   pub text : List ℕ
   pub text_is : IfSome file (λ held. text ≡ held)
-  pub stood : StandsBy book ahead text stands
+  pub stood : StandsBy start.book ahead start.preface text stands
 
 -- Why they do not: it was not to be read, or by its text no vehicles of the run stand anywhere, or memory ran out.
-abbrev pub IsWhyNotOver : Seen → ℕ → Option (List ℕ) → DriveTrouble → Type 0
-IsWhyNotOver book ahead file (Arrivals line) = (text : List ℕ) × IfSome file (λ held. text ≡ held) × IsWhyNotStood book ahead text (stood.BadLine line)
-IsWhyNotOver book ahead file (Astray agent) = (text : List ℕ) × IfSome file (λ held. text ≡ held) × IsWhyNotStood book ahead text (stood.Astray agent)
-IsWhyNotOver book ahead file (Plain trouble.Unkept) = Unit {0}
-IsWhyNotOver book ahead file (Plain trouble.NoMemory) = Unit {0}
-IsWhyNotOver book ahead file (Plain _) = ⊥
+abbrev pub IsWhyNotOver : Start → ℕ → Option (List ℕ) → DriveTrouble → Type 0
+IsWhyNotOver start ahead file (Arrivals line) = (text : List ℕ) × IfSome file (λ held. text ≡ held) × IsWhyNotStood start.book ahead start.preface text (stood.BadLine line)
+IsWhyNotOver start ahead file (Astray agent) = (text : List ℕ) × IfSome file (λ held. text ≡ held) × IsWhyNotStood start.book ahead start.preface text (stood.Astray agent)
+IsWhyNotOver start ahead file (Plain trouble.Unkept) = Unit {0}
+IsWhyNotOver start ahead file (Plain trouble.NoMemory) = Unit {0}
+IsWhyNotOver start ahead file (Plain _) = ⊥
 
 -- A run starts over the files, by whose site nobody follows, and its vehicles stand so.
 pub record StartsConvoy {X : Type 0} (gives : PlannerParts → Result X AllocError → Type 0) (fleet : Fleet) (again : Option ℕ) (anew : Bool) (ahead : ℕ) (old between : Input) (files : Held) (beside : Siding)
     (site : Site) (start : Start) (stands : Stood) (planners spares : List X) : Type 0 where
   pub starts : StartsOver gives fleet again anew old between files.log beside site start planners spares
   pub rule : site.layout.nofollow ≡ true
-  pub over : StandsOver start.book ahead files.arrivals stands
+  pub over : StandsOver start ahead files.arrivals stands
 
 -- It was brought to its end from there: the vehicles set out, and the script that was left was served to its end over both files. The
 -- log is that of the whole run now.
 pub record GoesToEnd {X : Type 0} (fits : X → Floor → Bool) (count : X → ℕ) (asker : Asker) (again : Option ℕ) (bound : ℕ) (before after : Input) (start : Start) (stands : Stood) (spares : List X)
     (final : Seen) (crew : Crew) (had has : Option (List ℕ)) (files holds synced : Held) : Type 0 where
   pub rest : List X
-  pub runs : RidesOn fits count asker again bound before after start.book stands spares final rest crew had has files holds synced
+  pub runs : RidesOn fits count asker again bound before after start stands spares final rest crew had has files holds synced
   -- the vehicles carry out the whole run, old and new entries: their plan's rows are the ticks of its history
   pub drive : Drive
   pub manned : IsManned final crew drive
-  -- the whole run is one of the abstract warehouse, from an opening state of the site with which it began
+  -- the whole run is one of the abstract warehouse, from the state and on the site with which it began
   pub site_is : final.site ≡ start.book.site
-  pub is_opening : IsOpening final.site final.opening
+  pub opening_is : final.opening ≡ start.book.opening
+  pub is_beginning : IsBeginningOnTheirWays final.site final.opening
   pub run : Run final.site final.opening final.history final.state
   -- on a well-formed site no request was ever refused for lack of a path
   pub served : IsFormed final.site → AllServed final.history
@@ -115,7 +116,7 @@ pub record GoesOn {X : Type 0} (fits : X → Floor → Bool) (count : X → ℕ)
   pub crew : Crew
   pub replied : Option (List ℕ)
   pub goes : GoesToEnd fits count asker again bound before after start stands spares final crew had replied files holds synced
-  pub follows : Appends replied has (tail_after tail final.opening final.history final.state)
+  pub follows : Appends replied has (tail_behind start.preface tail final.opening final.history final.state)
   pub left_is : left ≡ count_by is_under_way crew.order.vehicles
 
 -- or it does not follow
@@ -125,7 +126,7 @@ pub record GoesWithoutTail {X : Type 0} (fits : X → Floor → Bool) (count : X
   pub crew : Crew
   pub replied : Option (List ℕ)
   pub goes : GoesToEnd fits count asker again bound before after start stands spares final crew had replied files holds synced
-  pub why : IsWhyNoTail told replied has (tail_after tail final.opening final.history final.state)
+  pub why : IsWhyNoTail told replied has (tail_behind start.preface tail final.opening final.history final.state)
 
 -- Why a run that starts was not brought to its end, or not all was told.
 abbrev pub IsWhyNotOn : {X : Type 0} → (X → Floor → Bool) → (X → ℕ) → Asker → Tail → (again : Option ℕ) → (bound : ℕ) → Trouble → (before after : Input) → Start → Stood → (planners spares : List X)
@@ -148,6 +149,8 @@ pub record ServesConvoy {X : Type 0} (fits : X → Floor → Bool) (count : X �
   pub site_is : start.book.site ≡ site
   pub is_set : IsSet beside starts.starts.text
   pub goes_on : GoesOn fits count asker tail again pace.behind between new start stands spares had has files holds synced left
+  -- it began with an opening state of the site where its log begins with no front
+  pub is_opening : start.preface ≡ None → IsOpening site goes_on.final.opening
 
 -- a site was read by whose rule agents may follow, so that vehicles might stand still for ever
 pub record LetsFollowKept (homes : Bool) (told : DriveTrouble) (old new : Input) : Type 0 where
@@ -161,7 +164,7 @@ pub record LetsFollowKept (homes : Bool) (told : DriveTrouble) (old new : Input)
 abbrev pub IsWhyNoConvoy : Fleet → (again : Option ℕ) → (anew : Bool) → (ahead : ℕ) → Site → Held → (beside : Option (List ℕ)) (text : List ℕ) → DriveTrouble → Type 0
 IsWhyNoConvoy fleet again anew ahead site files beside text told =
     ((fault : Trouble) × (told ≡ Plain fault) × (IsWhyNoRun fleet again anew site files.log beside text fault ⊎ IsUnequipped fleet site files.log fault))
-    ⊎ ((start : Start) × StartsFrom fleet site files.log start × IsWhyNotOver start.book ahead files.arrivals told)
+    ⊎ ((start : Start) × StartsFrom fleet site files.log start × IsWhyNotOver start ahead files.arrivals told)
 
 -- a site was read, and there it ended
 pub record EndsAtConvoy (fleet : Fleet) (again : Option ℕ) (anew : Bool) (ahead : ℕ) (told : DriveTrouble) (old new : Input) (files : Held) (beside : Option (List ℕ)) : Type 0 where

@@ -9,9 +9,10 @@ use Rattle.wh_points.specs.Formed.{IsFormed}
 use Rattle.wh_claims.specs.Bank.{bank_total}
 use Rattle.wh_claims.specs.declared.bank.Bank.{Bank}
 use Rattle.wh_replay.specs.declared.asker.Asker.{Asker}
-use Rattle.wh_core.specs.Laws.{IsOpening}
+use Rattle.wh_core.specs.Laws.{IsBeginningOnTheirWays, IsOpening}
 use Rattle.wh_core.specs.Steps.{Run}
 use Rattle.wh_judge.specs.Drafts.{AllServed, Seen}
+use Rattle.wh_continue.specs.Again.{CanTellAgain, IsWhyNotAgain}
 use Rattle.wh_continue.specs.Starting.{IsWhyNoStart, StartsByFile}
 use Rattle.wh_continue.specs.Besides.{HoldsOther, StandsBeside}
 use Rattle.wh_continue.specs.Opening.{IsOpened, IsWhyNotBoth}
@@ -24,7 +25,11 @@ use Rattle.wh_continue.specs.declared.running.KeepFault.TheVariants as kept
 use Rattle.wh_continue.specs.declared.running.RunFault.{RunFault}
 use Rattle.wh_continue.specs.declared.running.RunFault.TheVariants as ran
 use Rattle.wh_continue.specs.declared.starting.Start.{Start}
+use Rattle.wh_continue.specs.declared.starting.StartFault.{StartFault}
 use Rattle.wh_continue.specs.declared.starting.StartFault.TheVariants as started
+use Rattle.wh_continue.specs.declared.again.AgainFault.{AgainFault}
+use Rattle.wh_continue.specs.declared.again.AgainFault.TheVariants as againfault
+use Rattle.wh_restore.specs.declared.reason.Reason.TheVariants as reasons
 use Rattle.wh_journal.specs.declared.fault.JournaledFault.{JournaledFault}
 use Rattle.wh_journal.specs.declared.fault.JournaledFault.TheVariants as journaled
 use Rattle.wh_edge.specs.Site.{SiteKept, SiteFault}
@@ -34,7 +39,7 @@ use Rattle.wh_options.specs.declared.chosen.Fleet.{Fleet}
 use Rattle.wh_options.specs.declared.chosen.Tail.{Tail}
 use Rattle.wh_service.specs.Fleets.{AreSeated, IsMember, IsWhyUnclaimed, IsWhyUnseated}
 use Rattle.wh_service.specs.Plays.{deliver_trouble}
-use Rattle.wh_service.specs.Tails.{IsWhyNoTail, tail_after, told_open}
+use Rattle.wh_service.specs.Tails.{IsWhyNoTail, tail_behind, told_open}
 use Rattle.wh_service.specs.declared.parts.PlannerParts.{PlannerParts}
 
 -- One planner for each agent, with the slots that its state tells, and as many spare ones as the options name, with the
@@ -75,7 +80,7 @@ abbrev pub HasLog : (anew : Bool) → Beside → Start → Type 0
 HasLog anew found start = found ≡ aside.Whole → anew ≡ false → is_some start.bytes ≡ true
 
 -- A site was read, and stands beside the log, or a beginning of its text does; then the log was read, and planners were made
--- for what the run starts from. Entries are told again from one on that the run has, or from its next one. Again, here and
+-- for what the run starts from. Entries are told again from one on that the log has, or from the run's next one. Again, here and
 -- below, says from which, if any are, and anew whether a new run may begin where its log was lost.
 pub record StartsOver {X : Type 0} (gives : PlannerParts → Result X AllocError → Type 0) (fleet : Fleet) (again : Option ℕ) (anew : Bool) (old between : Input) (file : Option (List ℕ)) (beside : Siding)
     (site : Site) (start : Start) (planners spares : List X) : Type 0 where
@@ -85,7 +90,7 @@ pub record StartsOver {X : Type 0} (gives : PlannerParts → Result X AllocError
   pub stands : StandsBeside beside.before text found
   pub starts : StartsFrom fleet site file start
   pub has_log : HasLog anew found start
-  pub within : IfSome again (λ first. first ≤ length start.book.history)
+  pub within : CanTellAgain again start
   pub seated : IsSeated gives fleet site.grid start.book.state.slots planners spares
 
 -- The run went on from there: the site stands beside the log, the script behind the site was served to its end, with planners
@@ -103,12 +108,14 @@ pub record ServesKept {X : Type 0} (fits : X → Floor → Bool) (count : X → 
   pub rest : List X
   pub final : Seen
   pub replied : Option (List ℕ)
-  pub runs : RunsOn fits count asker again deliver between new start.book spares final rest had replied file synced holds
+  pub runs : RunsOn fits count asker again deliver between new start spares final rest had replied file synced holds
   pub open_is : report ≡ told_open deliver final.state
-  pub follows : Appends replied has (tail_after tail final.opening final.history final.state)
-  -- the whole run, old and new entries, is one of the abstract warehouse, from an opening state of this site
+  pub follows : Appends replied has (tail_behind start.preface tail final.opening final.history final.state)
+  -- the whole run, old and new entries, is one of the abstract warehouse, from an opening state of this site, or from the state that the
+  -- front of its log tells
   pub site_is : final.site ≡ site
-  pub is_opening : IsOpening site final.opening
+  pub is_beginning : IsBeginningOnTheirWays site final.opening
+  pub is_opening : start.preface ≡ None → IsOpening site final.opening
   pub run : Run site final.opening final.history final.state
   -- on a well-formed site no request was ever refused for lack of a path
   pub served : IsFormed site → AllServed final.history
@@ -142,23 +149,31 @@ IsWhyAside beside text trouble.Unkept = Unit {0}
 IsWhyAside beside text trouble.NoMemory = Unit {0}
 IsWhyAside beside text _ = ⊥
 
+-- what is told of a start that the log file does not allow
+abbrev pub start_trouble : StartFault → Trouble
+start_trouble (started.Bad line) = trouble.Log line
+start_trouble (started.Flawed line reason) = trouble.Front reason line
+start_trouble (started.Stray line agent) = trouble.Front (reasons.Stray agent) line
+start_trouble started.Unread = trouble.Unkept
+start_trouble started.NoMemory = trouble.NoMemory
+
+-- what is told where entries cannot be told again from the one that is named
+abbrev pub again_trouble : AgainFault → Trouble
+again_trouble (againfault.Earlier first) = trouble.Forgotten first
+again_trouble (againfault.Missing line) = trouble.Log line
+
 -- Why no run starts over the log of a site that was read: it was not to be read, or its text is none that a run goes on from,
 -- or memory ran out.
 abbrev pub IsWhyNotStarted : Fleet → Site → Option (List ℕ) → Trouble → Type 0
-IsWhyNotStarted fleet site file (trouble.Log line) = IsWhyNoStart site (first_slots fleet site) file (started.Bad line)
-IsWhyNotStarted fleet site file trouble.Unkept = Unit {0}
-IsWhyNotStarted fleet site file trouble.NoMemory = Unit {0}
-IsWhyNotStarted fleet site file _ = ⊥
+IsWhyNotStarted fleet site file told = (fault : StartFault) × (told ≡ start_trouble fault) × IsWhyNoStart site (first_slots fleet site) file fault
 
--- A run could start, and entries are to be told again from one on that it has not come to: the first line that is missing is
--- told. Two lines stand before the entries.
+-- A run could start, and entries are to be told again from one on that its log does not have.
 pub record IsBeyond (fleet : Fleet) (again : Option ℕ) (site : Site) (file : Option (List ℕ)) (told : Trouble) : Type 0 where
   pub start : Start
   pub starts : StartsFrom fleet site file start
-  pub first : ℕ
-  pub again_is : again ≡ Some first
-  pub beyond : length start.book.history < first
-  pub told_is : told ≡ trouble.Log (length start.book.history + 3)
+  pub fault : AgainFault
+  pub told_is : told ≡ again_trouble fault
+  pub why : IsWhyNotAgain again start fault
 
 -- The site's text stands whole beside a log that was not begun, as it does only once a log was: that log was lost, and no new run is asked for.
 pub record IsLostLog (fleet : Fleet) (anew : Bool) (site : Site) (file beside : Option (List ℕ)) (text : List ℕ) (told : Trouble) : Type 0 where
@@ -226,8 +241,8 @@ pub record KeptWithoutTail {X : Type 0} (fits : X → Floor → Bool) (count : X
   pub rest : List X
   pub final : Seen
   pub replied : Option (List ℕ)
-  pub runs : RunsOn fits count asker again deliver between new start.book spares final rest had replied file synced holds
-  pub why : IsWhyNoTail told replied has (tail_after tail final.opening final.history final.state)
+  pub runs : RunsOn fits count asker again deliver between new start spares final rest had replied file synced holds
+  pub why : IsWhyNoTail told replied has (tail_behind start.preface tail final.opening final.history final.state)
 
 -- Why it ended otherwise, in this order: the site, both files, the bank and the planners, the log's first lines and the site's file, the run,
 -- what is to follow the replies. Before the run starts nothing is told; before its planners are made, both files are as they were.

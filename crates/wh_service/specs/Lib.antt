@@ -7,3 +7,4 @@ pub mod Kept
 pub mod Convoys
 pub mod Checks
 pub mod Verifies
+pub mod States

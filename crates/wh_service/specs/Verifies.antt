@@ -1,5 +1,5 @@
 -- What a whole run of `verify` does.
-use Rattle.std.specs.Prelude.{◌≡◌, ◌⊎◌, ℕ, ◌≤◌, Bool, true, false, List, [], ◌∷◌, ◌++◌, codes, decimal, length, Option}
+use Rattle.std.specs.Prelude.{◌≡◌, ◌⊎◌, ℕ, ◌≤◌, Bool, true, false, List, [], ◌∷◌, ◌++◌, codes, decimal, length, Option, Some, None}
 use Rattle.std.specs.Io.KnownBytes.{Appends, Keeps}
 use Rattle.wh_lines.specs.Input.{Input}
 use Rattle.wh_lines.specs.Output.{WritesFront}
@@ -10,7 +10,9 @@ use Rattle.wh_edge.specs.declared.trouble.Trouble.{Trouble}
 use Rattle.wh_edge.specs.declared.trouble.Trouble.TheVariants as trouble
 use Rattle.wh_edge.specs.declared.trouble.Status.{Status}
 use Rattle.wh_edge.specs.declared.trouble.Status.TheVariants as status
-use Rattle.wh_judge.specs.Verifying.{Says, SaysUnended}
+use Rattle.wh_judge.specs.declared.verifier.VerifiedFront.{VerifiedFront}
+use Rattle.wh_resume.specs.Behind.{IsVersionThree}
+use Rattle.wh_resume.specs.Judging.{SaysOfThree, SaysOfTwo}
 use Rattle.wh_options.specs.declared.chosen.VerifyOptions.{VerifyOptions}
 use Rattle.wh_judge.specs.declared.verifier.Verified.{Verified}
 use Rattle.wh_judge.specs.declared.verifier.Verified.TheVariants.{Run, Bad}
@@ -25,10 +27,15 @@ unfoldable pub verified_text : Verified → (is_ended : Bool) → List ℕ
 verified_text (Run entries) is_ended = codes "run " ++ decimal entries ++ unended_text is_ended ++ 10 ∷ []
 verified_text (Bad line) is_ended = codes "bad " ++ decimal line ++ 10 ∷ []
 
--- What is said of a text: of a log that is to be whole, or of one that may lack its last line.
-abbrev pub IsVerdict : (unended : Bool) → Site → List ℕ → Verified → (is_ended : Bool) → Type 0
-IsVerdict true site log verified is_ended = SaysUnended site log verified is_ended
-IsVerdict false site log verified is_ended = Says site log verified × (is_ended ≡ true)
+-- What is said of a text where logs of version 1 and 2 alone are taken, or those of version 3 too.
+abbrev pub SaysByVersion : (wlog : Option ℕ) → (unended : Bool) → Site → List ℕ → VerifiedFront → Type 0
+SaysByVersion None unended site log said = SaysOfTwo site unended log said
+SaysByVersion (Some version) unended site log said =
+    ((¬ IsVersionThree log) → SaysOfTwo site unended log said) × (IsVersionThree log → SaysOfThree site unended log said.verified said.is_ended)
+
+-- what is said of a text by the options
+abbrev pub IsVerdict : VerifyOptions → Site → List ℕ → VerifiedFront → Type 0
+IsVerdict options site log said = SaysByVersion options.wlog options.unended site log said
 
 -- a text that is no log of a run is told by status 1
 abbrev pub status_of_log : Verified → Status
@@ -47,21 +54,19 @@ pub record Verifies (options : VerifyOptions) (old new : Input) (had has : Optio
   pub site : Site
   pub log : List ℕ
   pub log_read : LogRead options.homes old new site log
-  pub verified : Verified
-  pub is_ended : Bool
-  pub says : IsVerdict options.unended site log verified is_ended
-  pub appends : Appends had has (verified_text verified is_ended)
-  pub ended_is : ended ≡ status_of_log verified
+  pub said : VerifiedFront
+  pub says : IsVerdict options site log said
+  pub appends : Appends had has (verified_text said.verified said.is_ended)
+  pub ended_is : ended ≡ status_of_log said.verified
 
 -- a site and a text were read, and of the line that tells what the text is a front was written
 pub record VerifiesUnwritten (options : VerifyOptions) (old new : Input) (had has : Option (List ℕ)) : Type 0 where
   pub site : Site
   pub log : List ℕ
   pub log_read : LogRead options.homes old new site log
-  pub verified : Verified
-  pub is_ended : Bool
-  pub says : IsVerdict options.unended site log verified is_ended
-  pub front : WritesFront had has (verified_text verified is_ended)
+  pub said : VerifiedFront
+  pub says : IsVerdict options site log said
+  pub front : WritesFront had has (verified_text said.verified said.is_ended)
 
 -- why the section of the log was not read
 abbrev pub IsWhyNoLog : Trouble → Input → Input → Type 0

@@ -1,9 +1,9 @@
 //! What `replay` does with vehicles over a log file and a file of arrivals.
 
-ghost use Rattle.std.specs.Prelude.{◌≡◌, ◌≤◌, false, IfErr, IfOk, IfSome, length};
+ghost use Rattle.std.specs.Prelude.{◌≡◌, ◌≤◌, false, IfErr, IfOk, length};
 ghost use Rattle.std.specs.Arc.{arc_value};
-ghost use Rattle.wh_core.specs.Laws.{IsOpening};
 ghost use Rattle.wh_dispatch.specs.SettingOut.{SomeInStep};
+ghost use Rattle.wh_continue.specs.Again.{CanTellAgain};
 ghost use Rattle.wh_continue.specs.Besides.{StandsBeside};
 ghost use Rattle.wh_continue.specs.Running.{IsStartOf};
 ghost use Rattle.wh_service.specs.Fleets.{IsOfFleet, MakesPlanners};
@@ -27,7 +27,6 @@ use wh_convoy::{ConvoyFault, RideFault, Stood, StoodFault, find_stand, ride_on};
 use wh_edge::{Status, Trouble};
 use wh_event::{put, put_number};
 use wh_grid::Grid;
-use wh_judge::Book;
 use wh_lines::Lines;
 use wh_log::Form;
 use wh_options::{ReplayOptions, Tail, VehicleOptions};
@@ -102,18 +101,17 @@ fn ride_trouble(fault: RideFault) -> Trouble
     }
 }
 
-/// Where vehicles stand as the run of the book goes on, by what the file of arrivals holds.
+/// Where vehicles stand as the run goes on, by what the file of arrivals holds.
 fn stand_over<L: LogFile>(
     alloc: Global,
     arrivals: &mut L,
-    book: &Book,
+    start: &Start,
     ahead: u64,
 ) -> Result<Stood, DriveTrouble>
-    requires opening { IsOpening book.now.site book.now.opening }
     requires some { 1 ≤ ahead }
-    ensures ok { IfOk result (StandsOver book.now ahead (L.contents arrivals.old)) }
-    ensures fault { IfErr result (IsWhyNotOver book.now ahead (L.contents arrivals.old)) }
-    ensures in_step { IfOk result (λ stood. SomeInStep book.now stood.order) }
+    ensures ok { IfOk result (StandsOver start.now ahead (L.contents arrivals.old)) }
+    ensures fault { IfErr result (IsWhyNotOver start.now ahead (L.contents arrivals.old)) }
+    ensures in_step { IfOk result (λ stood. SomeInStep start.now.book stood.order) }
     ensures same { L.contents arrivals.new ≡ L.contents arrivals.old }
 {
     let text = match arrivals.text(alloc) {
@@ -121,7 +119,7 @@ fn stand_over<L: LogFile>(
         Err(LogFileFault::Unread) => return Err(DriveTrouble::Plain(Trouble::Unkept)),
         Err(LogFileFault::NoMemory) => return Err(DriveTrouble::Plain(Trouble::NoMemory)),
     };
-    match find_stand(alloc, book, ahead, text.as_slice()) {
+    match find_stand(alloc, &start.book, ahead, &start.preface, text.as_slice()) {
         Ok(stood) => Ok(stood),
         Err(StoodFault::BadLine(line)) => Err(DriveTrouble::Arrivals { line }),
         Err(StoodFault::Astray(agent)) => Err(DriveTrouble::Astray { agent }),
@@ -152,9 +150,8 @@ fn start_convoy<L: LogFile, P: Planner, F: Fn(PlannerParts) -> Result<P, AllocEr
     ensures ok { IfOk result (λ r. StartsFrom options.now.fleet setting (L.contents file.old) r.0) }
     ensures stands { IfOk result (λ r. StandsBeside (L.contents beside.old) text.now r.1) }
     ensures has_log { IfOk result (λ r. HasLog options.now.anew r.1 r.0) }
-    ensures within { IfOk result (λ r. IfSome options.now.told (λ first. first ≤ length r.0.book.history)) }
-    ensures over { IfOk result (λ r. StandsOver r.0.book ahead (L.contents arrivals.old) r.2) }
-    ensures opening { IfOk result (λ r. IsOpening r.0.book.site r.0.book.opening) }
+    ensures within { IfOk result (λ r. CanTellAgain options.now.told r.0) }
+    ensures over { IfOk result (λ r. StandsOver r.0 ahead (L.contents arrivals.old) r.2) }
     ensures in_step { IfOk result (λ r. SomeInStep r.0.book r.2.order) }
     ensures seated { IfOk result (λ r. IsSeated (F.post make.now) options.now.fleet setting.grid r.0.book.state.slots r.3.0.items r.3.1.items) }
     ensures fault { IfErr result (IsWhyNoConvoy options.now.fleet options.now.told options.now.anew ahead setting (record { log = L.contents file.old; arrivals = L.contents arrivals.old }) (L.contents beside.old) text.now) }
@@ -169,9 +166,7 @@ fn start_convoy<L: LogFile, P: Planner, F: Fn(PlannerParts) -> Result<P, AllocEr
         Ok(started) => started,
         Err(trouble) => return Err(DriveTrouble::Plain(trouble)),
     };
-    // Called for what its contract says.
-    let _run = start.book.history();
-    let stood = match stand_over(alloc, arrivals, &start.book, ahead) {
+    let stood = match stand_over(alloc, arrivals, &start, ahead) {
         Ok(stood) => stood,
         Err(trouble) => {
             drop(start);
@@ -205,7 +200,6 @@ fn go_on<R: Read, W: Write, L: LogFile, P: Planner>(
     spares: &mut Vec<P>,
 ) -> Result<u32, Trouble>
     requires starts { IsStartOf (L.contents file.old) start }
-    requires opening { IsOpening start.book.site start.book.opening }
     requires stand { SomeInStep start.book stood.order }
     ensures ok { IfOk result (λ left. GoesOn P.fits_map P.slot_count (log_asker form) tail again behind lines.old lines.new start stood spares.old.items (W.contents output.old) (W.contents output.new)
         (record { log = L.contents file.old; arrivals = L.contents arrivals.old }) (record { log = L.contents file.new; arrivals = L.contents arrivals.new }) (record { log = L.synced file.new; arrivals = L.synced arrivals.new }) left) }
@@ -215,13 +209,14 @@ fn go_on<R: Read, W: Write, L: LogFile, P: Planner>(
     let ran = ride_on(
         lines, alloc, form, again, file, arrivals, output, start, stood, behind, planners, spares,
     );
-    let (warehouse, vehicles) = match ran {
+    let (warehouse, vehicles, preface) = match ran {
         Ok(ran) => ran,
         Err(fault) => return Err(ride_trouble(fault)),
     };
     let _history = warehouse.history();
-    let written = write_tail(alloc, output, &warehouse, tail);
+    let written = write_tail(alloc, output, &warehouse, &preface, tail);
     drop(warehouse);
+    drop(preface);
     match written {
         Ok(()) => Ok(vehicles.on_their_way()),
         Err(trouble) => Err(trouble),

@@ -4,8 +4,9 @@ ghost use Rattle.std.specs.Prelude.{◌≡◌, ◌<◌, ◌≤◌, ◌⊎◌, �
 ghost use Rattle.std.specs.Arc.{arc_value};
 ghost use Rattle.wh_log.specs.Logs.{IsSlots};
 ghost use Rattle.wh_service.specs.Fleets.{IsOfFleet, IsWhyUnclaimed, IsWhyUnseated, MakesPlanners};
+ghost use Rattle.wh_continue.specs.Again.{CanTellAgain};
 ghost use Rattle.wh_continue.specs.Besides.{StandsBeside};
-ghost use Rattle.wh_service.specs.Kept.{HasLog, IsSeated, IsWhyAside, IsWhyNoRun, IsWhyNotStarted, IsWhyUnkept, ServesKept, StartsFrom, journal_trouble, keep_trouble, run_trouble};
+ghost use Rattle.wh_service.specs.Kept.{HasLog, IsSeated, IsWhyAside, IsWhyNoRun, IsWhyNotStarted, IsWhyUnkept, ServesKept, StartsFrom, again_trouble, journal_trouble, keep_trouble, run_trouble, start_trouble};
 ghost use Rattle.wh_service.specs.Plays.{form_of};
 ghost use Rattle.wh_journal.specs.Journals.{log_asker};
 
@@ -19,14 +20,15 @@ use std::io::{Read, Write};
 use std::sync::Arc;
 use wh_claims::Bank;
 use wh_continue::{
-    Beside, BesideFault, ContinueFault, JournaledFault, KeepFault, LogFile, RunFault, Setting,
-    Start, StartFault, find_start, look_beside, open_both, run_on,
+    AgainFault, Beside, BesideFault, ContinueFault, JournaledFault, KeepFault, LogFile, RunFault,
+    Setting, Start, StartFault, check_again, find_start, look_beside, open_both, run_on,
 };
 use wh_edge::Trouble;
 use wh_grid::Grid;
 use wh_lines::Lines;
 use wh_options::{Fleet, ReplayOptions};
 use wh_planner::Planner;
+use wh_restore::Reason;
 
 /// The error of a log file that was not begun or not ended.
 pub fn keep_trouble(fault: KeepFault) -> Trouble
@@ -107,6 +109,32 @@ fn look_aside<L: LogFile>(alloc: Global, beside: &mut L, text: &[u8]) -> Result<
     }
 }
 
+/// What is told of a start that the log file does not allow.
+fn start_trouble(fault: StartFault) -> Trouble
+    ensures { result ≡ start_trouble fault }
+{
+    match fault {
+        StartFault::Bad { line } => Trouble::Log { line },
+        StartFault::Flawed { line, reason } => Trouble::Front { reason, line },
+        StartFault::Stray { line, agent } => Trouble::Front {
+            reason: Reason::Stray(agent),
+            line,
+        },
+        StartFault::Unread => Trouble::Unkept,
+        StartFault::NoMemory => Trouble::NoMemory,
+    }
+}
+
+/// What is told where entries cannot be told again from the one that is named.
+fn again_trouble(fault: AgainFault) -> Trouble
+    ensures { result ≡ again_trouble fault }
+{
+    match fault {
+        AgainFault::Earlier { first } => Trouble::Forgotten { first },
+        AgainFault::Missing { line } => Trouble::Log { line },
+    }
+}
+
 /// What the log file lets a run of the site start from.
 fn start_over<L: LogFile>(
     alloc: Global,
@@ -124,28 +152,13 @@ fn start_over<L: LogFile>(
     let each = vec![in alloc; fleet.slots; setting.agents()]?;
     match find_start(alloc, setting, each, file) {
         Ok(start) => Ok(start),
-        Err(StartFault::Bad { line }) => Err(Trouble::Log { line }),
-        Err(StartFault::Unread) => Err(Trouble::Unkept),
-        Err(StartFault::NoMemory) => Err(Trouble::NoMemory),
-    }
-}
-
-/// The line that is missing in a log of this many entries, where entries are to be told again from one that it does not
-/// have. Two lines stand before the entries.
-fn missing_line(again: Option<u32>, entries: u64) -> Option<u64>
-    requires few { entries < 2 ^ 63 }
-    ensures some { IfSome result (λ line. (line ≡ entries + 3) × ((first : ℕ) × (again ≡ Some first) × (entries < first))) }
-    ensures none { IfNone result (IfSome again (λ first. first ≤ entries)) }
-{
-    match again {
-        Some(first) if entries < u64::from(first) => Some(entries + 3),
-        _ => None,
+        Err(fault) => Err(start_trouble(fault)),
     }
 }
 
 /// What a run of the site starts from by both files, and how much of the site's text stands beside the log. The file beside
 /// it comes first. Where the site's text stands whole beside a log that was not begun, that log was lost, and a run begins only where
-/// a new one is asked for. Where entries are to be told again from one on, the run has come to it.
+/// a new one is asked for. Where entries are to be told again from one on, it is one of this log, or the run's next one.
 pub fn start_aside<L: LogFile, B: LogFile>(
     alloc: Global,
     file: &mut L,
@@ -161,7 +174,7 @@ pub fn start_aside<L: LogFile, B: LogFile>(
     ensures ok { IfOk result (λ r. StartsFrom fleet.now setting (L.contents file.old) r.0) }
     ensures stands { IfOk result (λ r. StandsBeside (B.contents beside.old) text.now r.1) }
     ensures has_log { IfOk result (λ r. HasLog anew r.1 r.0) }
-    ensures within { IfOk result (λ r. IfSome again (λ first. first ≤ length r.0.book.history)) }
+    ensures within { IfOk result (λ r. CanTellAgain again r.0) }
     ensures slots { IfOk result (λ r. All IsSlots r.0.book.state.slots) }
     ensures fault { IfErr result (IsWhyNoRun fleet.now again anew setting (L.contents file.old) (B.contents beside.old) text.now) }
     ensures same { L.contents file.new ≡ L.contents file.old }
@@ -182,19 +195,19 @@ pub fn start_aside<L: LogFile, B: LogFile>(
         drop(start);
         return Err(Trouble::LostLog);
     }
-    match missing_line(again, start.book.history().len() as u64) {
-        Some(line) => {
+    match check_again(&start, again) {
+        Ok(()) => Ok((start, found)),
+        Err(fault) => {
             drop(start);
-            Err(Trouble::Log { line })
+            Err(again_trouble(fault))
         }
-        None => Ok((start, found)),
     }
 }
 
 /// Reads a site, finds out from the log file and the file beside it what the run starts from, makes one planner for each
 /// agent, with the slots that its state tells, and then the spare ones, begins the log where it was not begun, keeps the site's text
 /// beside it, serves the script after the site over the log, and writes what follows the replies. The first line written is `entries N`, the number
-/// of entries that the run has so far, followed by those that are to be told again. What is in the log survives a kill,
+/// of entries that the run has so far in all its logs, followed by those that are to be told again. What is in the log survives a kill,
 /// and no reply is told before its entry was synced. `make` makes one planner of its parts, and fails only when out of
 /// memory. Errors are reported in this order: the site, the file beside the log, the log, the bank and the planners, the log's first lines,
 /// what is written beside the log, the run, what follows the replies. Before the run starts nothing is told.
@@ -280,8 +293,8 @@ pub fn serve_kept<
         planners,
         &mut spares,
     );
-    let warehouse = match ran {
-        Ok(warehouse) => warehouse,
+    let (warehouse, preface) = match ran {
+        Ok(ran) => ran,
         Err(fault) => {
             drop(spares);
             return Err(run_trouble(fault));
@@ -289,7 +302,8 @@ pub fn serve_kept<
     };
     drop(spares);
     let _history = warehouse.history();
-    let finished = finish(alloc, output, &warehouse, deliver, options.tail);
+    let finished = finish(alloc, output, &warehouse, &preface, deliver, options.tail);
     drop(warehouse);
+    drop(preface);
     finished
 }

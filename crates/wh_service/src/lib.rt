@@ -1,9 +1,10 @@
-//! The subcommands `check`, `verify` and `replay`, over any reader and writer, generic in the planner.
+//! The subcommands `check`, `verify`, `state` and `replay`, over any reader and writer, generic in the planner.
 //!
 //! Proved: each reads its sections, or reports the first error in order; the run is from an opening with the options'
 //! slots, or from what the log holds; replies, log or ledger are what was written, and in a file each reply was synced
 //! first; on a well-formed instance no request is refused for lack of a path (`replay`, `serve_kept`, `serve_late`,
-//! `serve_convoy`, `check`, `verify`).
+//! `serve_convoy`, `check`, `verify`);
+//! `state` writes the front of a log that goes on from the one in a file, and changes nothing (`state`).
 //!
 //! `replay` is handed how one planner is made, so that it works with planners of any type, and makes none
 //! itself.
@@ -15,6 +16,7 @@ mod kept;
 mod parts;
 mod program;
 mod settings;
+mod stating;
 mod tail;
 mod vehicles;
 mod verdict;
@@ -27,6 +29,7 @@ pub use kept::{keep_trouble, serve_kept, start_aside};
 pub use parts::PlannerParts;
 pub use program::{Played, ended, form_of, play, replay};
 pub use settings::{KeptSetting, read_kept_setting, read_setting};
+pub use stating::state;
 pub use vehicles::serve_late;
 pub use verdict::check;
 pub use verified::verify;

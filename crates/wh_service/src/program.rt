@@ -123,7 +123,7 @@ pub fn play<R: Read, W: Write, P: Planner>(
             return Err(deliver_trouble(fault));
         }
     }
-    let finished = finish(alloc, output, &warehouse, deliver, tail);
+    let finished = finish(alloc, output, &warehouse, &None, deliver, tail);
     drop(warehouse);
     match finished {
         Ok(report) => Ok(Played {

@@ -3,14 +3,16 @@
 ghost use Rattle.std.specs.Prelude.{◌≡◌, ◌++◌, IfErr, IfOk, OnErr, OnOk};
 ghost use Rattle.std.specs.Io.KnownBytes.{Appends};
 ghost use Rattle.wh_replay.specs.Scripts.{WritesFront};
-ghost use Rattle.wh_service.specs.Tails.{IsWhyNoTail, separator, tail_after, tail_text, told_open};
+ghost use Rattle.wh_service.specs.Tails.{IsWhyNoTail, log_behind, separator, tail_behind, told_open};
 
 use std::alloc::Global;
 use std::io::Write;
+use wh_continue::Preface;
 use wh_deliver::open_text;
 use wh_edge::Trouble;
+use wh_event::Entry;
 use wh_ledger::ledger_text;
-use wh_log::{NoMemory, log_text};
+use wh_log::{NoMemory, end_text, entries_text, log_text};
 use wh_options::Tail;
 use wh_planner::Planner;
 use wh_replay::{Warehouse, WriteFault, write_all};
@@ -25,20 +27,51 @@ fn separator(tail: Tail) -> &'static [u8]
     }
 }
 
+/// The log of these entries behind a front. The error is want of memory.
+fn log_behind(alloc: Global, preface: &Preface, history: &[Entry]) -> Result<Vec<u8>, NoMemory>
+    ensures { IfOk result (λ text. text.items ≡ log_behind preface.now history.now) }
+{
+    let mut text = Vec::from_slice(alloc, preface.text.as_slice())?;
+    let entries = entries_text(alloc, history)?;
+    text.extend_from_slice(entries.as_slice())?;
+    let end = end_text(alloc, history.len() as u64)?;
+    text.extend_from_slice(end.as_slice())?;
+    Ok(text)
+}
+
+/// The log of the warehouse's run. The error is want of memory.
+fn whole_log<P: Planner>(
+    alloc: Global,
+    warehouse: &Warehouse<P>,
+    preface: &Option<Preface>,
+) -> Result<Vec<u8>, NoMemory>
+    ensures { IfOk result (λ text. separator Tail.Log ++ text.items ≡ tail_behind preface.now Tail.Log warehouse.now.book.opening warehouse.now.book.history warehouse.now.book.state) }
+{
+    match preface {
+        Some(preface) => log_behind(alloc, preface, warehouse.history()),
+        None => {
+            let clock = warehouse.start();
+            log_text(alloc, clock, warehouse.first_slots(), warehouse.history())
+        }
+    }
+}
+
 /// The log of the warehouse's run, or the rows of its ledger. The error is want of memory.
-fn text<P: Planner>(alloc: Global, warehouse: &Warehouse<P>, tail: Tail) -> Result<Vec<u8>, Trouble>
-    ensures ok { IfOk result (λ text. text.items ≡ tail_text tail warehouse.now.book.opening warehouse.now.book.history warehouse.now.book.state) }
+fn text<P: Planner>(
+    alloc: Global,
+    warehouse: &Warehouse<P>,
+    preface: &Option<Preface>,
+    tail: Tail,
+) -> Result<Vec<u8>, Trouble>
+    ensures ok { IfOk result (λ text. separator tail ++ text.items ≡ tail_behind preface.now tail warehouse.now.book.opening warehouse.now.book.history warehouse.now.book.state) }
     ensures fault { IfErr result (λ told. told ≡ Trouble.NoMemory) }
 {
     match tail {
         Tail::Nothing => Ok(Vec::new(alloc)),
-        Tail::Log => {
-            let clock = warehouse.start();
-            match log_text(alloc, clock, warehouse.first_slots(), warehouse.history()) {
-                Ok(text) => Ok(text),
-                Err(NoMemory) => Err(Trouble::NoMemory),
-            }
-        }
+        Tail::Log => match whole_log(alloc, warehouse, preface) {
+            Ok(text) => Ok(text),
+            Err(NoMemory) => Err(Trouble::NoMemory),
+        },
         Tail::Ledger => {
             let ledger = warehouse.ledger(alloc)?;
             Ok(ledger_text(alloc, ledger.rows())?)
@@ -73,24 +106,25 @@ fn told_open<P: Planner>(
     }
 }
 
-/// Writes what follows the replies, and returns what is to be told of orders that are open, where that is asked for. Lack of memory is
+/// Writes what follows the replies, behind a front if the log of the run has one, and returns what is to be told of orders that are open, where that is asked for. Lack of memory is
 /// told before any of it is written.
 pub(crate) fn finish<W: Write, P: Planner>(
     alloc: Global,
     output: &mut W,
     warehouse: &Warehouse<P>,
+    preface: &Option<Preface>,
     deliver: bool,
     tail: Tail,
 ) -> Result<Vec<u8>, Trouble>
-    ensures ok { OnOk result (Appends (W.contents output.old) (W.contents output.new) (tail_after tail warehouse.now.book.opening warehouse.now.book.history warehouse.now.book.state)) }
+    ensures ok { OnOk result (Appends (W.contents output.old) (W.contents output.new) (tail_behind preface.now tail warehouse.now.book.opening warehouse.now.book.history warehouse.now.book.state)) }
     ensures report { IfOk result (λ text. text.items ≡ told_open deliver warehouse.now.book.state) }
-    ensures fault { IfErr result (λ told. IsWhyNoTail told (W.contents output.old) (W.contents output.new) (tail_after tail warehouse.now.book.opening warehouse.now.book.history warehouse.now.book.state)) }
+    ensures fault { IfErr result (λ told. IsWhyNoTail told (W.contents output.old) (W.contents output.new) (tail_behind preface.now tail warehouse.now.book.opening warehouse.now.book.history warehouse.now.book.state)) }
 {
     let text = match told_open(alloc, warehouse, deliver) {
         Ok(text) => text,
         Err(trouble) => return Err(trouble),
     };
-    match write_tail(alloc, output, warehouse, tail) {
+    match write_tail(alloc, output, warehouse, preface, tail) {
         Ok(()) => Ok(text),
         Err(trouble) => {
             drop(text);
@@ -99,17 +133,18 @@ pub(crate) fn finish<W: Write, P: Planner>(
     }
 }
 
-/// Writes what follows the replies, and flushes the writer. Lack of memory is told before any of it is written.
+/// Writes what follows the replies, behind a front if the log of the run has one, and flushes the writer. Lack of memory is told before any of it is written.
 pub(crate) fn write_tail<W: Write, P: Planner>(
     alloc: Global,
     output: &mut W,
     warehouse: &Warehouse<P>,
+    preface: &Option<Preface>,
     tail: Tail,
 ) -> Result<(), Trouble>
-    ensures ok { OnOk result (Appends (W.contents output.old) (W.contents output.new) (tail_after tail warehouse.now.book.opening warehouse.now.book.history warehouse.now.book.state)) }
-    ensures fault { IfErr result (λ told. IsWhyNoTail told (W.contents output.old) (W.contents output.new) (tail_after tail warehouse.now.book.opening warehouse.now.book.history warehouse.now.book.state)) }
+    ensures ok { OnOk result (Appends (W.contents output.old) (W.contents output.new) (tail_behind preface.now tail warehouse.now.book.opening warehouse.now.book.history warehouse.now.book.state)) }
+    ensures fault { IfErr result (λ told. IsWhyNoTail told (W.contents output.old) (W.contents output.new) (tail_behind preface.now tail warehouse.now.book.opening warehouse.now.book.history warehouse.now.book.state)) }
 {
-    let text = match text(alloc, warehouse, tail) {
+    let text = match text(alloc, warehouse, preface, tail) {
         Ok(text) => text,
         Err(trouble) => return Err(trouble),
     };

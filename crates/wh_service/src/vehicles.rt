@@ -93,7 +93,7 @@ fn play_late<R: Read, W: Write, P: Planner>(
     }
     drop(spares);
     let _history = warehouse.history();
-    let written = write_tail(alloc, output, &warehouse, tail);
+    let written = write_tail(alloc, output, &warehouse, &None, tail);
     drop(warehouse);
     match written {
         Ok(()) => Ok(vehicles.on_their_way()),

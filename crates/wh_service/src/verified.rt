@@ -3,6 +3,7 @@
 ghost use Rattle.std.specs.Prelude.{◌≡◌, ◌≤◌, IfErr, IfOk, length};
 ghost use Rattle.wh_lines.specs.Section.{Sectioned};
 ghost use Rattle.wh_service.specs.Verifies.{IsVerdict, IsWhyNoLog, IsWhyUnverified, Verifies, status_of_log, verified_text};
+ghost use Rattle.wh_resume.specs.Judging.{SaysOfTwo};
 
 use crate::writing::write_text;
 use arrayvec::ArrayVec;
@@ -14,6 +15,7 @@ use wh_judge::{Instance, Verified, VerifiedFront, verify_over, verify_unended};
 use wh_lines::{Lines, SectionFault};
 use wh_log::NoMemory;
 use wh_options::VerifyOptions;
+use wh_resume::verify_any;
 
 /// The most bytes of a log.
 const LOG_LIMIT: usize = 268_435_456;
@@ -52,15 +54,15 @@ fn text(front: VerifiedFront) -> ArrayVec<u8, 64>
     line
 }
 
-/// What a text is that is to be a log over the instance, and may lack its last line where that is allowed.
-fn verdict(
+/// What a text is that is to be a log of version 1 or 2 over the instance, and may lack its last line where that is allowed.
+fn verdict_of_two(
     alloc: Global,
     instance: Instance,
     unended: bool,
     log: &[u8],
 ) -> Result<VerifiedFront, NoMemory>
     requires some { 1 ≤ length instance.layout.agents }
-    ensures { IfOk result (λ front. IsVerdict unended instance.entry log.now front.verified front.is_ended) }
+    ensures { IfOk result (SaysOfTwo instance.entry unended log.now) }
 {
     if unended {
         return verify_unended(alloc, instance, log);
@@ -70,6 +72,22 @@ fn verdict(
         verified,
         is_ended: true,
     })
+}
+
+/// What a text is that is to be a log over the instance, of a version that is taken, and may lack its last line where that is allowed.
+fn verdict(
+    alloc: Global,
+    instance: Instance,
+    options: VerifyOptions,
+    log: &[u8],
+) -> Result<VerifiedFront, NoMemory>
+    requires some { 1 ≤ length instance.layout.agents }
+    ensures { IfOk result (λ front. IsVerdict options instance.entry log.now front) }
+{
+    match options.wlog {
+        Some(_) => verify_any(alloc, instance, options.unended, log),
+        None => verdict_of_two(alloc, instance, options.unended, log),
+    }
 }
 
 /// How the program ends after that: well only where the text is the log of a run.
@@ -83,8 +101,9 @@ fn status(verified: Verified) -> Status
 }
 
 /// Reads a site and the section of a log, at most 268,435,456 bytes, and writes in one line `run N` where the log's N
-/// entries are a run over the site by the rule of the options, and else `bad L` with the first line with which no such log begins. What follows the
-/// log's section is ignored. Where the options allow that the log lacks its last line, it writes `run N unended` for such a one, and a part of
+/// entries are a run over the site by the rule of the options, and else `bad L` with the first line with which no such log begins. A log of
+/// version 3, whose entries are a run from the state that it tells, is one only where the options take it. What follows the log's section is
+/// ignored. Where the options allow that the log lacks its last line, it writes `run N unended` for such a one, and a part of
 /// a line behind its entries is not counted. Errors are reported in this order: the site, the section of the log, lack of
 /// memory, the writer. Before the writer fails nothing is written.
 pub fn verify<R: Read, W: Write>(
@@ -109,7 +128,7 @@ pub fn verify<R: Read, W: Write>(
         Err(trouble) => return Err(trouble),
     };
     let instance = Instance::with_homes(&grid, &points, homes);
-    let front = match verdict(alloc, instance, options.unended, log.as_slice()) {
+    let front = match verdict(alloc, instance, options, log.as_slice()) {
         Ok(front) => front,
         Err(NoMemory) => return Err(Trouble::NoMemory),
     };

@@ -2,7 +2,7 @@
 use Rattle.std.proofs.Common.{◌≡◌, ◌∙◌, ap, codes}
 use Rattle.std.proofs.lemmas.Result.{IfOk-weaker}
 use Rattle.clap.specs.Words.{app_of, new_app, with_subcommand}
-use Rattle.wh_options.specs.Menu.{live_app, replay_app, ruled_app, serve_app, verify_app, with_settings}
+use Rattle.wh_options.specs.Menu.{live_app, replay_app, ruled_app, serve_app, state_app, verify_app, with_settings}
 use Rattle.wh_options.proofs.command.warehouse_command.Goals as goal
 
 pub returns : goal.returns
@@ -19,7 +19,10 @@ returns c =
     let live = c.in_ok-command-4.ensures in
     let live_in = live.is
     ∙ ap (λ a. with_subcommand a (live_app live.planners live.ends).top) verify_in in
-    IfOk-weaker c.with_serve.result _ _ (λ made serve. record {
+    let serve = c.in_ok-command-5.ensures in
+    let serve_in = serve.is
+    ∙ ap (λ a. with_subcommand a (serve_app serve.planners serve.replies serve.ends).top) live_in in
+    IfOk-weaker c.with_state.result _ _ (λ made state. record {
       planners = replay.planners;
       tails = replay.tails;
       replies = replay.replies;
@@ -32,6 +35,7 @@ returns c =
         verify_ends = verify.ends;
         live_ends = live.ends;
         serve_ends = serve.ends;
+        state_ends = state.ends;
       };
       planner_texts = replay.planner_texts;
       tail_texts = replay.tail_texts;
@@ -44,5 +48,6 @@ returns c =
       verify_ends = verify.ends_texts;
       live_ends = live.ends_texts;
       serve_ends = serve.ends_texts;
-      is = serve.is ∙ ap (λ a. with_subcommand a (serve_app serve.planners serve.replies serve.ends).top) live_in;
-    }) c.with_serve.ensures
+      state_ends = state.ends_texts;
+      is = state.is ∙ ap (λ a. with_subcommand a (state_app state.ends).top) serve_in;
+    }) c.with_state.ensures

@@ -1,8 +1,6 @@
-use Rattle.std.proofs.Common.{rules, ap, inl, inr, refl, subst, sym}
+use Rattle.std.proofs.Common.{rules, ap, inl, inr, refl}
 use Rattle.std.proofs.KnownBytes.{Keeps-refl}
 use Rattle.wh_points.specs.Points.{Site}
-use Rattle.wh_core.specs.Laws.{IsOpening}
-use Rattle.wh_judge.specs.Drafts.{Seen}
 use Rattle.wh_edge.specs.declared.trouble.Trouble.TheVariants as trouble
 use Rattle.wh_journal.specs.Journals.{log_asker}
 use Rattle.wh_service.proofs.Lasting.{kept_at, start_of_file}
@@ -27,10 +25,6 @@ pub open_both-requires-clause-starts : goal.open_both-requires-clause-starts
 open_both-requires-clause-starts g c =
     let site : Site = c.in-Ok.kept.setting in
     start_of_file c.args.options.now.fleet site (g.L.Journal.contents c.args.file.now) (g.L.Journal.contents c.start_convoy.new.file) c.in-Ok-start_convoy.started.0 c.in-Ok-start_convoy.ensures.ok c.in-Ok-start_convoy.ensures.same
-
-pub go_on-left-requires-clause-opening : goal.go_on-left-requires-clause-opening
-go_on-left-requires-clause-opening g c = λ lifetimes bounds.
-    subst (λ (b : Seen). IsOpening b.site b.opening) (sym c.in-Ok-open_both.ensures.book) c.in-Ok-start_convoy.ensures.opening
 
 pub returns-in-Err-open_both-clause-fault : goal.returns-in-Err-open_both-clause-fault
 returns-in-Err-open_both-clause-fault g c =

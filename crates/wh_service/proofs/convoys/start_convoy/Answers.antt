@@ -1,17 +1,11 @@
 use Rattle.std.proofs.Common.{◌⊎◌, ℕ, List, inl, inr, refl, subst}
 use Rattle.wh_service.specs.Fleets.{IsWhyUnclaimed, IsWhyUnseated}
 use Rattle.wh_service.proofs.Convoyed.{seated_at}
-use Rattle.wh_service.proofs.Lasting.{opens_from, seated_on}
+use Rattle.wh_service.proofs.Lasting.{seated_on}
 use Rattle.wh_service.proofs.convoys.start_convoy.Goals as goal
 
 pub returns-in-Err-clause-fault : goal.returns-in-Err-clause-fault
 returns-in-Err-clause-fault g c = inl (c.in-Err.trouble, refl, inl c.in-Err.ensures.fault)
-
-pub stand_over-requires-clause-opening : goal.stand_over-requires-clause-opening
-stand_over-requires-clause-opening g c = opens_from c.args.options.now.fleet c.args.setting (g.L.Journal.contents c.args.file.now) c.in-Ok.started.0 c.in-Ok.ensures.ok c.history-run.ensures.opening
-
-pub returns-in-Ok-equip_for-clause-opening : goal.returns-in-Ok-equip_for-clause-opening
-returns-in-Ok-equip_for-clause-opening g c = opens_from c.args.options.now.fleet c.args.setting (g.L.Journal.contents c.args.file.now) c.in-Ok.started.0 c.in-Ok.ensures.ok c.history-run.ensures.opening
 
 pub returns-in-Err-stand_over-clause-fault : goal.returns-in-Err-stand_over-clause-fault
 returns-in-Err-stand_over-clause-fault g c = inr (c.in-Ok.started.0, c.in-Ok.ensures.ok, c.in-Err-stand_over.ensures.fault)

@@ -74,7 +74,7 @@ returns-clause-ok g c =
     c.in-Ok-start_aside.started.1 c.in-Ok-start_aside.ensures.stands c.in-Ok-start_aside.ensures.ok c.in-Ok-start_aside.ensures.has_log c.in-Ok-start_aside.ensures.within
     c.slots-slots.result.now c.slots-slots.ensures.value (seated_on _ _ _ _ _ _ _ (c.in-Ok-try_clone.ensures ∙ c.shared_grid.ensures) c.in-Ok-equip_for.ensures.ok)
     _ _ _ _ _ _ _ (ap log_asker c.form_of-form.ensures) c.in-Ok-open_both.begun c.in-Ok-open_both.ensures.book _ _ c.in-Ok-start_aside.ensures.same c.in-Ok-open_both.ensures.opens _ c.in-Ok-start_aside.ensures.same_beside c.in-Ok-open_both.ensures.ok c.in-Ok-open_both.ensures.synced
-    c.args.options.now.tail (λ (v : Vec ℕ). v.items) c.finish-finished.result c.in-Ok-ran.warehouse.book _ c.in-Ok-ran.ensures.runs c.in-Ok-ran.ensures.opening c.in-Ok-ran.ensures.run
+    c.args.options.now.tail (λ (v : Vec ℕ). v.items) c.finish-finished.result c.in-Ok-ran.ran.0.book _ c.in-Ok-ran.ensures.runs c.in-Ok-ran.ran.1 c.in-Ok-ran.ensures.preface c.in-Ok-ran.ensures.opening c.in-Ok-ran.ensures.run
     c.history-history.ensures.served c.finish-finished.ensures.ok c.finish-finished.ensures.report
 
 pub returns-clause-fault : goal.returns-clause-fault
@@ -85,4 +85,4 @@ returns-clause-fault g c =
     c.in-Ok-start_aside.started.1 c.in-Ok-start_aside.ensures.stands c.in-Ok-start_aside.ensures.ok c.in-Ok-start_aside.ensures.has_log c.in-Ok-start_aside.ensures.within
     c.slots-slots.result.now c.slots-slots.ensures.value (seated_on _ _ _ _ _ _ _ (c.in-Ok-try_clone.ensures ∙ c.shared_grid.ensures) c.in-Ok-equip_for.ensures.ok)
     _ _ _ _ _ _ _ (ap log_asker c.form_of-form.ensures) c.in-Ok-open_both.begun c.in-Ok-open_both.ensures.book _ _ c.in-Ok-start_aside.ensures.same c.in-Ok-open_both.ensures.opens _ c.in-Ok-start_aside.ensures.same_beside c.in-Ok-open_both.ensures.ok c.in-Ok-open_both.ensures.synced
-    c.args.options.now.tail (λ (v : Vec ℕ). v.items) c.finish-finished.result c.in-Ok-ran.warehouse.book _ c.in-Ok-ran.ensures.runs _ c.finish-finished.ensures.fault
+    c.args.options.now.tail (λ (v : Vec ℕ). v.items) c.finish-finished.result c.in-Ok-ran.ran.0.book _ c.in-Ok-ran.ensures.runs c.in-Ok-ran.ran.1 c.in-Ok-ran.ensures.preface _ c.finish-finished.ensures.fault

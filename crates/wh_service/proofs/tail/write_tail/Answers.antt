@@ -11,5 +11,6 @@ returns-in-Ok-write_both-clause-fault g c =
     let has = g.W.Write.contents c.flush.new.self in
     let same =
     ap (λ (l : List ℕ). l ++ c.as_slice.result.now) c.separator.ensures
-    ∙ ap (λ (l : List ℕ). separator c.args.tail ++ l) (c.as_slice.ensures.value ∙ c.in-Ok.ensures.ok) in
+    ∙ ap (λ (l : List ℕ). separator c.args.tail ++ l) c.as_slice.ensures.value
+    ∙ c.in-Ok.ensures.ok in
     front_all had has _ (subst (λ (l : List ℕ). Appends had has l) same (Appends-kept had _ has _ c.in-Ok-write_both.ensures.ok c.flush.ensures.bytes))

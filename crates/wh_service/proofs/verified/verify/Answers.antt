@@ -30,10 +30,9 @@ returns-in-Ok-write_text-clause-ok g c =
         section = c.in-Ok-log_section.ensures.ok;
         within = c.in-Ok-log_section.ensures.within;
       };
-      verified = told.verified;
-      is_ended = told.is_ended;
-      says = subst (λ (l : List ℕ). IsVerdict c.args.options.unended site l told.verified told.is_ended) c.as_slice.ensures.value
-          (subst (λ (x : Site). IsVerdict c.args.options.unended x c.as_slice.result.now told.verified told.is_ended) c.with_homes-instance.ensures c.in-Ok-verdict.ensures);
+      said = told;
+      says = subst (λ (l : List ℕ). IsVerdict c.args.options site l told) c.as_slice.ensures.value
+          (subst (λ (x : Site). IsVerdict c.args.options x c.as_slice.result.now told) c.with_homes-instance.ensures c.in-Ok-verdict.ensures);
       appends = subst (λ (l : List ℕ). Appends had has l) (c.as_slice-2.ensures.value ∙ c.text-line.ensures) c.in-Ok-write_text.ensures.ok;
       ended_is = c.status.ensures;
     }
@@ -54,9 +53,8 @@ returns-clause-fault g c =
         section = c.in-Ok-log_section.ensures.ok;
         within = c.in-Ok-log_section.ensures.within;
       };
-      verified = told.verified;
-      is_ended = told.is_ended;
-      says = subst (λ (l : List ℕ). IsVerdict c.args.options.unended site l told.verified told.is_ended) c.as_slice.ensures.value
-          (subst (λ (x : Site). IsVerdict c.args.options.unended x c.as_slice.result.now told.verified told.is_ended) c.with_homes-instance.ensures c.in-Ok-verdict.ensures);
+      said = told;
+      says = subst (λ (l : List ℕ). IsVerdict c.args.options site l told) c.as_slice.ensures.value
+          (subst (λ (x : Site). IsVerdict c.args.options x c.as_slice.result.now told) c.with_homes-instance.ensures c.in-Ok-verdict.ensures);
       front = subst (WritesFront had has) (c.as_slice-2.ensures.value ∙ c.text-line.ensures) c.in-Err-write_text.ensures.front;
     })

@@ -1,0 +1,12 @@
+-- The shape of the command `state`, from that of its part.
+use Rattle.std.proofs.lemmas.Result.{IfOk-weaker}
+use Rattle.wh_options.proofs.command.state_command.Goals as goal
+
+pub returns : goal.returns
+returns c =
+    let below = c.in_ok-command.ensures in
+    IfOk-weaker c.with_number.result _ _ (λ made added. record {
+      ends = below.ends;
+      ends_texts = below.ends_texts;
+      is = added;
+    }) (c.with_number.ensures _ (c.in_ok-command-2.ensures _ below.is))
