@@ -204,7 +204,7 @@ const REPLAYS: [(&[&str], ReplayOptions<'static>); 25] = [
 ];
 
 /// Words that are refused, and the kind of the error.
-const MISTAKES: [(&[&str], ErrorKind); 82] = [
+const MISTAKES: [(&[&str], ErrorKind); 85] = [
     (&["replay", "--slack=1001"], ErrorKind::ValueValidation),
     (&["check", "--slack=1"], ErrorKind::UnknownArgument),
     (&["replay", "--effort=999"], ErrorKind::ValueValidation),
@@ -213,6 +213,9 @@ const MISTAKES: [(&[&str], ErrorKind); 82] = [
         ErrorKind::ValueValidation,
     ),
     (&["verify", "--effort=1000"], ErrorKind::UnknownArgument),
+    (&["verify", "--wlog=2"], ErrorKind::ValueValidation),
+    (&["verify", "--wlog=4"], ErrorKind::ValueValidation),
+    (&["replay", "--wlog=3"], ErrorKind::UnknownArgument),
     (
         &["replay", "--effort=1000", "--planner=patient"],
         ErrorKind::ArgumentConflict,
@@ -455,18 +458,27 @@ fn other_subcommands(rt: HostRuntime) {
     let stops = Options::Verify(VerifyOptions {
         homes: false,
         unended: false,
+        wlog: None,
     });
     let homes = Options::Verify(VerifyOptions {
         homes: true,
         unended: false,
+        wlog: None,
     });
     assert!(rt; gives(alloc, &["warehouse", "verify"], stops));
     assert!(rt; gives(alloc, &["warehouse", "verify", "--ends", "homes"], homes));
     let unended = Options::Verify(VerifyOptions {
         homes: false,
         unended: true,
+        wlog: None,
     });
     assert!(rt; gives(alloc, &["warehouse", "verify", "--unended"], unended));
+    let fronts = Options::Verify(VerifyOptions {
+        homes: false,
+        unended: false,
+        wlog: Some(3),
+    });
+    assert!(rt; gives(alloc, &["warehouse", "verify", "--wlog", "3"], fronts));
     let live = LiveOptions {
         fleet: FLEET,
         turns: 64,

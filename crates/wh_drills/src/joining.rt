@@ -118,6 +118,7 @@ pub fn begun(
         allowance: Allowance {
             rights: Rights::all(),
             entries: plan.share,
+            before: 0,
         },
     })?;
     if journal.append(plan.before).is_err() {

@@ -52,7 +52,7 @@ struct Case {
 const CLOSES: Case = Case {
     may_stop: false,
     second: b"begin 0123456789abcdef\ntoken 0\nstop\nclose\ntick\n",
-    told: b"entries 1 0123456789abcdef\ntook 0 end 6\nrefused C3\nclosed\n",
+    told: b"entries 8 0123456789abcdef\ntook 0 end 6\nrefused C3\nclosed\n",
     replies: 3,
     kept: b"0 submit x A B = accepted 0\n1 submit y D C = accepted 1\n0 token 0 = took 0 path 0,1 1,1 1,0 1,1 2,1 3,1 3,0\n0 close = closed\n",
     over: 1,
@@ -62,7 +62,7 @@ const CLOSES: Case = Case {
 const STOPS: Case = Case {
     may_stop: true,
     second: b"begin 0123456789abcdef\ntoken 0\nstop now\n stop\t\ntick\n",
-    told: b"entries 1 0123456789abcdef\ntook 0 end 6\nrefused C1\nstopped\n",
+    told: b"entries 8 0123456789abcdef\ntook 0 end 6\nrefused C1\nstopped\n",
     replies: 3,
     kept: b"0 submit x A B = accepted 0\n1 submit y D C = accepted 1\n0 token 0 = took 0 path 0,1 1,1 1,0 1,1 2,1 3,1 3,0\n",
     over: 2,
@@ -178,14 +178,19 @@ struct Kept {
     connections: Vec<u64>,
 }
 
-/// A client without spares.
-fn client<P: Planner>(alloc: Global, rights: Rights) -> Client<P> {
+/// A client without spares, with so many entries in logs before.
+fn client<P: Planner>(alloc: Global, rights: Rights, before: u64) -> Client<P> {
     Client {
         spares: Vec::new(alloc),
-        allowance: Allowance { rights, entries: 3 },
+        allowance: Allowance {
+            rights,
+            entries: 3,
+            before,
+        },
     }
 }
 
+/// Client 0, which had seven entries in logs before, and client 1, which had none.
 fn clients<P: Planner>(alloc: Global, may_stop: bool) -> Result<Vec<Client<P>>, Fail>
     ensures { IfOk result (λ r. length r.items ≡ 2) }
 {
@@ -198,8 +203,8 @@ fn clients<P: Planner>(alloc: Global, may_stop: bool) -> Result<Vec<Client<P>>, 
         ..Rights::default()
     };
     let mut clients = Vec::new(alloc);
-    clients.push(client(alloc, ends))?;
-    clients.push(client(alloc, submits))?;
+    clients.push(client(alloc, ends, 7))?;
+    clients.push(client(alloc, submits, 0))?;
     Ok(clients)
 }
 
@@ -336,7 +341,7 @@ fn tells(case: Case) -> [Tells; 3] {
                 replies: 1,
                 end: End::Torn,
             },
-            b"entries 0 0123456789abcdef\naccepted 0\n",
+            b"entries 7 0123456789abcdef\naccepted 0\n",
         ),
         (
             1,
@@ -464,14 +469,24 @@ fn client_comes_again(rt: HostRuntime) -> Result<(), Fail> {
     Ok(())
 }
 
+/// What a client is told as it comes: client 0 had seven entries in logs before.
+fn greeting(client: u32) -> &'static [u8] {
+    if client == 0 {
+        b"entries 7 0123456789abcdef\n"
+    } else {
+        b"entries 0 0123456789abcdef\n"
+    }
+}
+
 /// Whether client 0 left first, with a fault, and nobody was told a reply.
 fn nobody_told(left: &[Left]) -> bool {
     let first = left.first().is_some_and(|left| {
         left.client == 0 && left.outcome == Err(ServeFault::Unjournaled)
     });
     first
-        && left.iter().all(|left| left.told.as_slice()
-            == b"entries 0 0123456789abcdef\n".as_slice())
+        && left
+            .iter()
+            .all(|left| left.told.as_slice() == greeting(left.client))
 }
 
 /// Whether the service ended once, and nothing was told or kept.

@@ -296,7 +296,7 @@ fn goes_on(
 }
 
 /// The floor of the run.
-fn setting_on(alloc: Global, map: &Arc<Grid>) -> Result<Setting, Fail>
+pub fn setting_on(alloc: Global, map: &Arc<Grid>) -> Result<Setting, Fail>
     ensures { IfOk result (λ s. 1 ≤ length s.layout.agents) }
 {
     let places = points(alloc, map)?;
@@ -326,7 +326,9 @@ fn survives_on(
         Ok(Recovery::Resumed(resumed)) => {
             Ok(goes_on(alloc, map, whole, cut, resumed)? && cut.len() >= head.len())
         }
-        Ok(Recovery::Bad { .. }) | Err(_) => Ok(false),
+        Ok(Recovery::Bad { .. } | Recovery::Flawed { .. } | Recovery::Stray { .. }) | Err(_) => {
+            Ok(false)
+        }
     }
 }
 

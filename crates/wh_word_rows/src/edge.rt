@@ -8,6 +8,8 @@ use wh_edge::{
 use wh_event::{Command, LineFault};
 use wh_lines::Lines;
 use wh_points::{Fault, FaultKind};
+use wh_restore::Reason;
+use wh_stand::Flaw;
 
 const MAP: &[u8] = b"type octile\nheight 1\nwidth 3\nmap\n..@\n%%\n";
 
@@ -33,7 +35,7 @@ const NO_SITES: [(&[u8], &[u8]); 5] = [
 ];
 
 /// Troubles, each with its text and the number of its status.
-const TROUBLES: [(Trouble, &[u8], u8); 13] = [
+const TROUBLES: [(Trouble, &[u8], u8); 16] = [
     (
         Trouble::Points(Fault {
             kind: FaultKind::RuleTwice,
@@ -45,6 +47,23 @@ const TROUBLES: [(Trouble, &[u8], u8); 13] = [
     (Trouble::Short { free: 3 }, b"refused B1 free 3\n", 1),
     (Trouble::Unwritten, b"refused X3\n", 3),
     (Trouble::Log { line: 12 }, b"refused L1 line 12\n", 1),
+    (
+        Trouble::Front {
+            reason: Reason::Flaw(Flaw::Conflict(2)),
+            line: 7,
+        },
+        b"refused S5 2\nrefused L1 line 7\n",
+        1,
+    ),
+    (
+        Trouble::Front {
+            reason: Reason::Stray(3),
+            line: 9,
+        },
+        b"refused S13 3\nrefused L1 line 9\n",
+        1,
+    ),
+    (Trouble::Forgotten { first: 4 }, b"refused L2 4\n", 1),
     (Trouble::Unkept, b"refused X5\n", 3),
     (Trouble::NoPipes { client: 61 }, b"refused X5 61\n", 3),
     (Trouble::Unshown, b"refused X6\n", 3),

@@ -14,6 +14,8 @@ mod log;
 #[cfg(test)]
 mod restore;
 #[cfg(test)]
+mod resume;
+#[cfg(test)]
 mod text;
 #[cfg(test)]
 mod words;

@@ -14,6 +14,8 @@ mod planners;
 #[cfg(test)]
 mod shared;
 #[cfg(test)]
+mod snapshot;
+#[cfg(test)]
 mod state;
 #[cfg(test)]
 mod tasks;
