@@ -14,7 +14,7 @@ import sys
 
 ROOT = os.path.dirname(os.path.dirname(os.path.abspath(__file__)))
 PAGE, MANUAL = 'docs/CLI.md', 'docs/warehouse.1'
-SUBCOMMANDS = ('check', 'replay', 'verify', 'live', 'serve')
+SUBCOMMANDS = ('check', 'replay', 'verify', 'live', 'serve', 'state')
 
 HEAD = '''# Command line
 
@@ -32,19 +32,20 @@ NOTES = {
         '''`--slack N` ([Performance](PERFORMANCE.md#paths-that-may-be-late)) and `--effort N` ([Algorithm](ALGORITHM.md#the-search)) do not go with `--planner patient`, here and below.''',
         '''`--tail log` writes the log after the replies, `--tail ledger` one row for each client. `--slots` and `--bank` bound what planners may keep in memory; they change no reply.''',
     ),
-    'verify': ('''Prints `run N`, N the number of entries, `run N unended`, or `bad L`, the first line of the log that no run by these `--ends` has.''',),
+    'verify': ('''Prints `run N`, N the number of entries, `run N unended`, or `bad L`, the first line with which no log of a run by these `--ends` continues.''',),
     'live': (
         '''Any interleaving of its threads is one history. The run ends whatever is open, and prints the log.''',
     ),
     'serve': (
-        '''Serves programs over named pipes ([Operations](OPERATIONS.md#several-clients)). `--log` and at least one `--client` are needed, and nothing follows the points. Closed, it prints the log.''',
+        '''Serves programs over named pipes ([Operations](OPERATIONS.md#several-clients)). `--log` and at least one `--client` are needed, and nothing follows the points.''',
         '''`--every N`: a worker requests and ticks until the service ends; earlier only where its share or the journal is used, or memory runs out.''',
-        '''`--board FILE`: FILE and FILE.new are replaced as a whole, if they are empty or boards; else `refused X6`.''',
+        '''`--board FILE` replaces FILE and FILE.new only if they are empty or [boards](FORMATS.md#the-board).''',
     ),
+    'state': ('''Writes the [front](FORMATS.md#the-front-of-a-next-log) of a log that continues FILE, after a kill too. FILE stays as it is; while a run has it, `refused X5`.''',),
 }
 
 STATUSES = (
-    ('0', 'done. Refused commands are no error; `replay --vehicles` may add `vehicles on their way: N` on standard error, and `replay --deliver` what stays open'),
+    ('0', 'done. Refused commands are no error'),
     ('1', 'the input is refused, not well-formed, or the log is no run'),
     ('2', 'the command line is wrong, or something follows the points of `serve` (`X7`)'),
     ('3', 'input, output, log file or board failed (`X1`, `X2`, `X3`, `X5`, `X6`, `X9`), or a thread (`E93`, `E95`)'),
@@ -82,11 +83,31 @@ def help_of(subcommand: str) -> str:
     return read(f'tools/help/{subcommand}.txt')
 
 
+OPTION = re.compile(r' +(?:-\w, )?(--[\w-]+)')
+
+
+def news_of(text: str, seen: set[str]) -> tuple[list[str], list[str]]:
+    """The lines of a help text but for options that subcommands above have in the same words, and the names of these."""
+    lines, same = [], []
+    for line in text.rstrip().split('\n'):
+        option, words = OPTION.match(line), ' '.join(line.split())
+        if option is not None and words in seen:
+            same += [option[1]] * (option[1] not in ('--help', '--version'))
+        else:
+            lines.append(line)
+        seen.add(words)
+    return lines, same
+
+
 def page() -> str:
-    parts = [HEAD]
+    parts, seen = [HEAD], set()
     for name in SUBCOMMANDS:
-        notes = '\n\n'.join(NOTES[name])
-        parts.append(f'## {name}\n\n```\n{help_of(name).rstrip()}\n```\n\n{notes}\n')
+        lines, same = news_of(help_of(name), seen)
+        notes = list(NOTES[name])
+        if same:
+            notes.insert(0, f'As above: {", ".join(f"`{option}`" for option in same)}.')
+        text, told = '\n'.join(lines), '\n\n'.join(notes)
+        parts.append(f'## {name}\n\n```\n{text}\n```\n\n{told}\n')
     rows = ''.join(f'|{status}|{text}|\n' for status, text in STATUSES)
     parts.append(f'## Exit statuses\n\n|Status|Means|\n|---|---|\n{rows}\n{TAIL}')
     return '\n'.join(parts)

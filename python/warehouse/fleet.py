@@ -19,7 +19,7 @@ from .refusals import SENTENCES
 from .replies import Accepted, Clock, Parked, Refused, Reply, Rested, Took
 from .session import Session
 from .pipe import shortened
-from .texts import Cell, Fault, Instance, Order
+from .texts import Cell, Fault, Instance, Order, Run, along
 
 LEFT_OUT = ('E1', 'E2', 'E3')    # refusals of an order that end no run
 MOST_FIELDS = 1024               # distance fields that are kept
@@ -92,10 +92,10 @@ class Fleet:
     """
 
     def __init__(self, core: Session, orders: Iterable[Order] = (), policy: Callable[[Fleet], None] | None = None, batch: int = 1,
-                 judge: Judge | None = None, listen: Callable[[str, Reply], None] | None = None, helpers: bool = False):
+                 judge: Judge | None = None, listen: Callable[[str, Reply], None] | None = None, helpers: bool = False, state: Run | None = None):
         """`orders` by their release; `batch` is how many commands are written at once; `judge` sees what the fleet goes by, and
         `listen` is called with each command and its reply before that. With `helpers` a standstill is ended by orders of the client
-        `helper`, as `help` says."""
+        `helper`, as `help` says. `state` is that with which the session's log begins (`core.state`), where it is no opening."""
         self.core, self.instance, self.batch, self.judge, self.listen = core, core.instance, batch, judge, listen
         self.policy, self.helpers = policy or nearest_first, helpers
         self.helped: set[tuple[int, int]] = set()    # open orders, and whom a helper order sent away for each
@@ -121,8 +121,29 @@ class Fleet:
         self.held: int | None = None     # the vehicle for which the clock waits
         self.commands = self.requests = self.refused = 0
         self.seconds = 0.0               # of wall time, spent on requests
+        # of agents whose paths do not lead through all stops left of their task, that task and these stops
+        self.halted: dict[int, tuple[int, list[Cell]]] = {}
+        self.homes = False               # whether a state says that paths go on home
+        self.has_state = state is not None
+        self.accepted = 0                # orders that it has handed in
+        if state:
+            self.begin_with(state)
         for entry in core.begun:
             self.hear_entry(entry.command, entry.reply)
+
+    def begin_with(self, state: Run) -> None:
+        """Begins where a state has its agents and tasks."""
+        cells = [point.cell for point in state.instance.points]
+        self.clock, self.homes = state.clock, bool(state.homes)
+        for agent, (path,) in enumerate(state.paths):
+            self.due[agent], self.still[agent], self.ends[agent] = path.free, path.end, path.cells[-1]
+            self.ways[agent] = path.clock, path.cells
+        for task in state.tasks:
+            names = [state.instance.points[stop].name for stop in task.stops]
+            self.tasks.append(Order(task.submitted, ' '.join(['submit', task.client, *names])))
+            self.stops.append([cells[stop] for stop in task.stops])
+        self.open = {number for number, task in enumerate(state.tasks) if task.agent is None}
+        self.halted = {agent: (number, self.stops[number][len(state.tasks[number].visits):]) for agent, number in state.halted.items()}
 
     # ---- what is asked
 
@@ -194,6 +215,7 @@ class Fleet:
             case Accepted(task) if task == len(self.tasks) and self.are_known(order):
                 self.hear(order.line, reply)
                 self.open.add(task)
+                self.accepted += 1
                 self.tasks.append(order)
                 self.stops.append(self.stops_of(order))
                 self.changes += 1
@@ -214,29 +236,39 @@ class Fleet:
                 self.rested[agent] = self.changes if self.barred[agent] == self.changes and self.still[agent] <= self.clock else None
                 self.barred[agent] = self.changes
             case Took(task):
-                if task not in self.open:
-                    raise Stop(f'`{shortened(str(reply))}` came to `{line}`, and no task {task} is open')
+                own = self.halted.get(agent)
+                if task != own[0] if own else task not in self.open:
+                    raise Stop(f'`{shortened(str(reply))}` came to `{line}`, and ' + (f'agent {agent} has task {own[0]}' if own else f'no task {task} is open'))
                 self.hear(line, reply)
-                self.open.remove(task)
                 self.goes(agent, reply)
+                self.open.discard(task)
+                self.halted.pop(agent, None)
             case Parked(point):
                 if point not in self.instance.by_name:
                     raise Stop(f'`{shortened(str(reply))}` came to `{line}`, and the instance has no point {point}')
                 self.hear(line, reply)
                 self.goes(agent, reply)
+                if agent in self.halted:
+                    self.pass_by(agent, reply.cells)
             case _:
                 stop_at(line, reply)
 
     def goes(self, agent: int, reply: Took | Parked) -> None:
         self.ends[agent] = reply.cells[-1] if reply.cells else self.end_of(reply)
-        self.due[agent] = self.clock + self.busy(reply, self.ends[agent])
+        self.due[agent] = self.clock + self.busy(agent, reply, self.ends[agent])
         self.still[agent] = self.clock + reply.steps
         self.ways[agent] = self.clock, reply.cells
         self.changes += 1
 
-    def busy(self, reply: Took | Parked, end: Cell) -> int:
+    def pass_by(self, agent: int, cells: Sequence[Cell]) -> None:
+        """A path on which it makes way may come to stops that are left of its task."""
+        number, left = self.halted.pop(agent)
+        if left := left[len(along(left, cells)):]:
+            self.halted[agent] = number, left
+
+    def busy(self, agent: int, reply: Took | Parked, end: Cell) -> int:
         """For how many ticks it may not be asked for: to the end of its path; or, where that goes on home, to the last stop."""
-        stops = self.stops[reply.task] if isinstance(reply, Took) else [end]
+        stops = [end] if isinstance(reply, Parked) else self.halted[agent][1] if agent in self.halted else self.stops[reply.task]
         if end == stops[-1]:
             return reply.steps
         try:
@@ -266,7 +298,7 @@ class Fleet:
 
     def may_ask(self, agent: int) -> bool:
         """Whether the agent is due, and its answer not known."""
-        return bool(self.open) and max(self.due[agent], self.again[agent]) <= self.clock and self.rested[agent] != self.changes
+        return (bool(self.open) or self.is_stray(agent)) and max(self.due[agent], self.again[agent]) <= self.clock and self.rested[agent] != self.changes
 
     def under_way(self) -> int:
         """How many agents have steps left."""
@@ -284,7 +316,17 @@ class Fleet:
 
     def is_done(self) -> bool:
         """Whether no order waits or is open, and nobody has steps left."""
-        return not self.pending() and not self.open and not self.under_way()
+        return not self.pending() and not self.open and not self.under_way() and not any(map(self.is_stray, range(len(self.due))))
+
+    def is_stray(self, agent: int) -> bool:
+        """Whether its path does not lead through all stops left of its task, or ends where it may not stay: so may a state have it."""
+        point = self.instance.starts[agent] if self.homes else None
+        return agent in self.halted or (self.ends[agent] not in self.berths if point is None else self.ends[agent] != self.instance.points[point].cell)
+
+    @functools.cached_property
+    def berths(self) -> set[Cell]:
+        """The cells of all points."""
+        return {point.cell for point in self.instance.points}
 
     def stands(self) -> bool:
         """Whether no later reply can differ: all that could ask have been answered since the last change."""
@@ -323,13 +365,16 @@ class Fleet:
 
     def answer(self, agent: int, eligible: tuple[list[int], dict[int, list[int]]] | None = None) -> tuple[int, int | None] | None:
         """What a due agent's request would come to: the distance to the first stop of the task that it would take, and that
-        task, the nearest, then the lowest; FAR and None where it would make way; None where it would rest."""
+        task, the nearest, then the lowest, or its own; FAR and None where it would make way; None where it would rest."""
+        if agent in self.halted:
+            number, left = self.halted[agent]
+            return self.distance(self.place(agent), left[0]), number
         free, own = eligible or self.eligible()
         here = self.place(agent)
         tasks = free + own.get(agent, [])
         if tasks:
             return min((self.distance(here, self.stops[task][0]), task) for task in tasks)
-        return (FAR, None) if any(self.stops[task][-1] == here for task in self.open) else None
+        return (FAR, None) if self.is_stray(agent) or any(self.stops[task][-1] == here for task in self.open) else None
 
     def next_to_ask(self) -> int | None:
         """Of the due agents whose request would not be `rested` the one nearest to the first stop of the order that it would be
@@ -371,8 +416,8 @@ class Fleet:
                 self.policy(self)
             if self.is_done() or (over and not self.under_way()):
                 return ''
-            if self.open and self.stands() and not (self.helpers and not over and self.help()):
-                return f'at clock {self.clock} all agents stand, {len(self.open)} orders are open, and no reply can differ any more'
+            if self.stands() and not (self.helpers and not over and self.help()):
+                return f'at clock {self.clock} all agents stand, {len(self.open) + len(self.halted)} orders are open, and no reply can differ any more'
             if most is not None and self.clock >= most:
                 return (f'at clock {self.clock} it was not at its end (--ticks): {self.pending()} orders not released, '
                         f'{len(self.open)} open, {self.under_way()} agents on their way')

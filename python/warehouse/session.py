@@ -22,7 +22,7 @@ from .folder import Folder
 from .pipe import Pipe, Restart, shortened
 from .process import CoreDied, Process, SessionError
 from .replies import FORMS, Clock, Entry, Go, Lost, NotAReply, Parked, Reply, Told, Took, Visited, is_entry, reply_of, unplaced
-from .texts import Instance, read_file, read_instance
+from .texts import Fault, Instance, Run, read_file, read_front, read_instance
 
 ENDS = ('stops', 'homes')
 ROOT = os.path.dirname(os.path.dirname(os.path.dirname(os.path.abspath(__file__))))
@@ -76,7 +76,7 @@ class Session:
     program   the program, or its words before `replay`; the environment's WAREHOUSE names another than the repository's
     log       the file in which the program keeps the run
     vehicles  that vehicles are late; then the points need `rule nofollow`, and `at` may be sent
-    told      with a log: from which entry on `begun` has the run's entries (0: all; None: none)
+    told      with a log: from which entry on `begun` has the run's entries (0: all that the log has; None: none)
     replies   how the program writes its replies, of FORMS
     ends      where paths end: `stops`, or `homes`, which short replies do not go with (SessionError): cells tell when an agent is due
     options   more words for `replay`
@@ -109,6 +109,10 @@ class Session:
             words = [*words_of(program), 'replay', '--replies', replies, *ends_words(ends), *options, *(vehicles.words if vehicles else [])]
             pipe = Pipe(process or Process(words, wait), self.instance.text, replies, log, vehicles is not None)
             self.carrier, self.restarts = pipe, pipe.restarts
+        # the state with which the run of a log begins that is at hand, None where it is an opening: its entries come after it
+        self.state = None if log is None else state_in(self.instance, log)
+        if self.state is not None:
+            self.clock, told = self.state.clock, None if told is None else max(told, self.state.earlier)
         self.begun = self.begin(told or 0, told)
 
     def begin(self, first: int, told: int | None) -> list[Entry]:
@@ -230,6 +234,15 @@ class Session:
                 self.end()
         finally:
             self.kill()
+
+
+def state_in(instance: Instance, log: str) -> Run | None:
+    """The state with which a log begins that is at hand. Of one that cannot be read, or is another instance's, the program has the word."""
+    try:
+        with open(log, 'rb') as file:
+            return read_front(instance, log, file)
+    except (OSError, Fault):
+        return None
 
 
 def ends_words(ends: str) -> list[str]:

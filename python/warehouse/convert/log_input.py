@@ -4,7 +4,7 @@
     log-input INSTANCE OUTPUT | ./warehouse verify
 
 INSTANCE gives map and points. OUTPUT is what `replay --tail log` printed (replies, a line `%%`, the log), or a log alone,
-as `live` prints it. The log is passed on as it is: what is wrong in it is `verify`'s to say. A run that ended early has
+as `live` prints it; a log of version 3 is for `verify --wlog 3`. The log is passed on as it is: what is wrong in it is `verify`'s to say. A run that ended early has
 printed no log; then, and where OUTPUT has a ledger, the message says so and the status is 2.
 """
 from __future__ import annotations

@@ -27,7 +27,7 @@ import argparse
 import sys
 
 from ..texts import Fault, Run, read_file, read_instance, read_log, sections_of
-from ..texts.log import OTHER_PAIR
+from ..texts.run import OTHER_PAIR
 
 FAULT = 1
 
@@ -48,16 +48,18 @@ def judge_counts(name: str, run: Run) -> None:
 def judge_rest(run: Run) -> None:
     """Refuses where a task is under way or an agent has steps left."""
     left = [steps_left(run, agent) for agent in range(len(run.paths))]
-    remedy = f'{max(left)} more ticks, with no token, bring all agents to rest'
+    rest = f'{max(left)} more ticks, with no token, bring all agents to rest'
     for number, task in enumerate(run.tasks):
         phase = task.phase(run.clock)
         if phase in ('assigned', 'carried') and task.agent is not None:
+            stands = 'its path does not lead through all stops that are left: ask for it until it takes the task again'
+            remedy = stands if run.halted.get(task.agent) == number else rest
             raise Fault(f'task {number} is {phase} at clock {run.clock}: agent {task.agent} has it, '
                         f'with {left[task.agent]} steps left; {remedy}')
     for agent, steps in enumerate(left):
         if steps:
             x, y = run.cell_at(agent, run.clock)
-            raise Fault(f'agent {agent} is at {x},{y} at clock {run.clock}, with {steps} steps left; {remedy}')
+            raise Fault(f'agent {agent} is at {x},{y} at clock {run.clock}, with {steps} steps left; {rest}')
 
 
 def places(run: Run) -> list[str]:

@@ -44,11 +44,12 @@ class Plan:
 
 
 def plan_of(run: Run) -> Plan:
-    """The plan that a log tells."""
+    """The plan that a log tells. Of tasks with which it begins it has the stops that were left; those that were done keep theirs, and have
+    no visits."""
     paths = [[run.cell_at(agent, clock) for clock in range(run.start, run.clock + 1)] for agent in range(len(run.paths))]
-    tasks = [[run.instance.points[stop].cell for stop in task.stops] for task in run.tasks]
+    tasks = [[run.instance.points[stop].cell for stop in task.stops[0 if task.done_before else task.before:]] for task in run.tasks]
     visits = [Visit(clock - run.start, task.agent, number, k) for number, task in enumerate(run.tasks) if task.agent is not None
-              for k, clock in enumerate(task.visits)]
+              for k, clock in enumerate(task.visits[task.before:])]
     return Plan(paths, tasks, sorted(visits, key=lambda visit: (visit.time, visit.agent, visit.task, visit.number)))
 
 

@@ -30,16 +30,16 @@ def text_of(run: Run) -> str:
     actions = [','.join(LETTERS[b[0] - a[0], b[1] - a[1]] for a, b in zip(path, path[1:])) for path in plan.paths]
     taken: list[list[tuple[int, int]]] = [[] for _ in plan.paths]
     for number, task in enumerate(run.tasks):
-        if task.agent is not None and task.taken is not None:
+        if task.agent is not None and task.taken is not None and not task.done_before:
             taken[task.agent].append((task.taken - run.start, number))
     schedule = [','.join(f'{time}:{task}' for time, task in sorted(rows)) for rows in taken]
     return json.dumps({
         'actionModel': 'MAPF', 'version': '2024 LoRR', 'AllValid': 'Yes', 'teamSize': len(plan.paths),
-        'start': [[path[0][1], path[0][0], 'E'] for path in plan.paths], 'numTaskFinished': sum(task.done is not None for task in run.tasks),
+        'start': [[path[0][1], path[0][0], 'E'] for path in plan.paths], 'numTaskFinished': sum(task.done is not None and not task.done_before for task in run.tasks),
         'sumOfCost': len(plan.paths) * plan.makespan, 'makespan': plan.makespan, 'actualPaths': actions, 'plannerPaths': actions,
         'plannerTimes': [], 'errors': [], 'scheduleErrors': [], 'actualSchedule': schedule, 'plannerSchedule': schedule,
         'events': [[visit.time, visit.agent, visit.task, visit.number + 1] for visit in plan.visits],
-        'tasks': [[number, task.submitted - run.start, [side for x, y in plan.tasks[number] for side in (y, x)]]
+        'tasks': [[number, max(0, task.submitted - run.start), [side for x, y in plan.tasks[number] for side in (y, x)]]
                   for number, task in enumerate(run.tasks)]}, separators=(',', ':')) + '\n'
 
 

@@ -1,15 +1,17 @@
 """Tables of a run as CSV, for pandas, DuckDB, R: `tasks.csv`, a row for each task, and `paths.csv`, a row for each agent and clock.
 
 Written from knowledge of the format (RFC 4180), not checked against its text: a line of names, then rows, with LF at their ends; an empty
-field is unknown.
+field is unknown, as when a task was taken that had its agent before the log began. A stop that the floor has no more is told by its
+cell, `X,Y`.
 """
 from __future__ import annotations
 
 import csv
 import io
+import re
 from typing import Any, Iterable
 
-from ..texts import Fault, Instance, Run, number_of
+from ..texts import Cell, Fault, Instance, Run, number_of
 from .plans import Plan, Visit
 
 TASKS = ['task', 'client', 'stops', 'submitted', 'taken', 'agent', 'visits', 'done', 'service']
@@ -26,7 +28,8 @@ def table(names: list[str], rows: Iterable[list[Any]]) -> str:
 
 def tasks_text(run: Run) -> str:
     """Each task: its stops by name, and the clocks of what was done."""
-    return table(TASKS, ([number, task.client, ' '.join(run.instance.points[stop].name for stop in task.stops), task.submitted, task.taken,
+    return table(TASKS, ([number, task.client, ' '.join(run.instance.points[stop].name for stop in task.stops), task.submitted,
+                          None if task.held else task.taken,
                           task.agent, ' '.join(map(str, task.visits)), task.done, task.service_time] for number, task in enumerate(run.tasks)))
 
 
@@ -63,6 +66,14 @@ def number_in(name: str, line: int, row: dict[str, str], column: str) -> int:
     return value
 
 
+def cell_of(instance: Instance, stop: str) -> Cell | None:
+    """The cell of a stop: of a point by its name; of one that is gone it is told itself."""
+    if stop in instance.by_name:
+        return instance.cell_of(stop)
+    gone = re.fullmatch(r'([0-9]{1,4}),([0-9]{1,4})', stop)
+    return (int(gone[1]), int(gone[2])) if gone else None
+
+
 def read_tables(instance: Instance, tasks: tuple[str, bytes], paths: tuple[str, bytes]) -> Plan:
     """The plan of both tables, the name and the bytes of each; clocks from the first of the paths on. Raises Fault."""
     plan = Plan([])
@@ -80,12 +91,16 @@ def read_tables(instance: Instance, tasks: tuple[str, bytes], paths: tuple[str, 
     for line, row in read_rows(*tasks, TASKS):
         if number_in(name, line, row, 'task') != len(plan.tasks):
             raise Fault(f'task {len(plan.tasks)} is due', name, line)
-        unknown = [stop for stop in row['stops'].split(' ') if not instance.is_station(stop)]
-        if unknown:
-            raise Fault(f'the instance has no station {unknown[0][:20]}', name, line)
-        plan.tasks.append([instance.cell_of(stop) for stop in row['stops'].split(' ')])
+        words = row['stops'].split(' ')
+        stops = [cell for stop in words if (cell := cell_of(instance, stop))]
+        if len(stops) < len(words):
+            unknown = next(stop for stop in words if not cell_of(instance, stop))
+            raise Fault(f'the instance has no station {unknown[:20]}', name, line)
         visits = [number_of(word) for word in row['visits'].split()]
-        for number, clock_of in enumerate(visits):
+        # those that were made before the log began, which are no visits of its plan
+        before = sum(clock is not None and clock <= first for clock in visits) if row['agent'] and not row['taken'] else 0
+        plan.tasks.append(stops[0 if before == len(stops) else before:])
+        for number, clock_of in enumerate(visits[before:]):
             if clock_of is None or clock_of < first or number >= len(plan.tasks[-1]):
                 raise Fault(f'`{row["visits"][:40]}` are no visits of its stops', name, line)
             plan.visits.append(Visit(clock_of - first, number_in(name, line, row, 'agent'), len(plan.tasks) - 1, number))

@@ -1,7 +1,7 @@
 """Runs as SVG: a still of one clock, or a picture that moves."""
 from __future__ import annotations
 
-from ..texts import BLOCKED, Cell, Execution, Fault, Instance, Run
+from ..texts import BLOCKED, GONE, Cell, Execution, Fault, Instance, Run
 
 CELL = 32
 BAND = 30    # below the floor: clock and legend
@@ -53,6 +53,8 @@ def frame(instance: Instance, body: list[str], below: list[str]) -> str:
             x = max(end, x + 1)
     points = []
     for point in instance.points:
+        if point.kind == GONE:
+            continue
         x, y = point.cell[0] * CELL, point.cell[1] * CELL
         dash = '' if point.kind == 'station' else ' stroke-dasharray="3 3"'
         points.append(f'<rect class="p" x="{x + 2}" y="{y + 2}" width="{CELL - 4}" height="{CELL - 4}"{dash}/>'
@@ -133,10 +135,11 @@ class Film:
         return f'{(clock - self.run.start) * self.second / self.length:.5f}'.rstrip('0').rstrip('.')
 
     def shown(self, begin: int | None, end: int | None) -> str:
-        """Seen from one clock (none: never) up to before the other (none: for ever)."""
-        if begin is None or begin == end:
+        """Seen from one clock (none: never) up to before the other (none: for ever); of a state with which the run begins both may be
+        before it."""
+        if begin is None or begin == end or (end is not None and end <= self.run.start):
             return ''
-        keys = [(self.at(begin), 1)] if begin == self.run.start else [('0', 0), (self.at(begin), 1)]
+        keys = [(self.at(self.run.start), 1)] if begin <= self.run.start else [('0', 0), (self.at(begin), 1)]
         if end is not None:
             keys.append((self.at(end), 0))
         return self.animate('<animate attributeName="opacity" calcMode="discrete"', [str(value) for _, value in keys],
@@ -171,7 +174,7 @@ def animated(run: Run) -> str:
         for phase, begin, end, cell in spans:
             inner = film.shown(begin, end)
             if inner:
-                visible = begin == run.start and begin != end
+                visible = begin is not None and begin <= run.start
                 body.append(f'<g opacity="{int(visible)}">{mark(phase, *cell)}{inner}</g>')
     for agent in range(len(run.paths)):
         place, motion = moves(film, agent)

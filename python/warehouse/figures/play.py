@@ -84,9 +84,10 @@ def check(run: Run, clocks: list[int], vehicles: Execution | None) -> int:
 
 
 def verdict(program: str, run: Run, log: bytes) -> str:
-    """What the program's `verify` says of the log of a run, under that run's rule of where paths end."""
+    """What the program's `verify` says of the log of a run, under that run's rules."""
+    words = ends_words('homes' if run.homes else 'stops') + ['--wlog', '3'] * (run.version == 3) + (['--age', str(run.age)] if run.age else [])
     try:
-        done = subprocess.run([program, 'verify', '--unended', *ends_words('homes' if run.homes else 'stops')], input=run.instance.text + log, capture_output=True)
+        done = subprocess.run([program, 'verify', '--unended', *words], input=run.instance.text + log, capture_output=True)
     except OSError as error:
         raise Fault(f'{program}: {error.strerror}') from None
     answer = done.stdout.decode('latin-1').strip()

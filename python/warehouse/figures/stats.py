@@ -8,7 +8,7 @@ output of `replay --tail log`; what stands before it is skipped. `-` is the stan
 
     log             the name of the file
     agents          how many agents there are
-    tasks           how many tasks were accepted
+    tasks           how many tasks were accepted; those that were done when the log began, with a state, count nowhere
     done            how many of them have their last stop visited
     makespan        ticks from the log's first clock to the last visit of the last task that is done
     service_mean    service time of a done task: ticks from its submission to its last visit; the mean,
@@ -41,8 +41,9 @@ COLUMNS = ('log agents tasks done makespan service_mean service_median service_p
 
 
 def row(name: str, run: Run) -> list[object]:
-    served = sorted(task.service_time for task in run.tasks if task.service_time is not None)
-    makespan = max((task.done - run.start for task in run.tasks if task.done is not None), default=None)
+    tasks = [task for task in run.tasks if not task.done_before]
+    served = sorted(task.service_time for task in tasks if task.service_time is not None)
+    makespan = max((task.done - run.start for task in tasks if task.done is not None), default=None)
     waits = moves = 0
     for before, after in steps_made(run):
         waits += before == after
@@ -52,7 +53,7 @@ def row(name: str, run: Run) -> list[object]:
         # the nearest rank: 95 of 100 are no later than the one at 0.95 n, rounded up
         times = [f'{statistics.mean(served):.2f}', f'{statistics.median(served):g}', served[-(-95 * len(served) // 100) - 1]]
     per100 = f'{100 * len(served) / makespan:.2f}' if makespan else ''
-    return [name, len(run.paths), len(run.tasks), len(served), '' if makespan is None else makespan, *times, per100,
+    return [name, len(run.paths), len(tasks), len(served), '' if makespan is None else makespan, *times, per100,
             moves, waits, run.answers['parked'], run.answers['E6'], run.clock - run.start, int(run.cut)]
 
 

@@ -42,7 +42,9 @@ With --log FILE the program keeps the run in FILE, each entry before its reply i
 ends while commands wait for their replies, it is started again, and resumes: it prints again the entries that it had served
 without a reply (`--told`), each for one of these commands; the others are sent again. A program that ends again
 by itself before it has served anything more is not started a third time; one that is killed is, up to five times. A FILE with an earlier run is left as it is: what this
-script knew of that run, it knows no more, so it says so and ends, and FILE and FILE.site are to be removed first. --save FILE is
+script knew of that run, it knows no more, so it says so and ends, and FILE and FILE.site are to be removed first. But a FILE that has a state
+and no entry behind it (`warehouse state` writes one) says all: the run begins with that state. Then an agent that was stopped with its task asks
+for it again, at each tick where it has no path, and `done` and what follows it are of orders that were delivered behind the state. --save FILE is
 for a program that knows no --log: it writes there, at the end, the log that follows the replies.
 
 With --replies short `took N end K` and `parked P end K` have K and no cell: for a program that knows no `--replies`.
@@ -165,16 +167,18 @@ def told_log(core: Session, kept: str | None) -> bytes:
 
 def figures(fleet: Fleet | None, orders: int, read: Run | None) -> list[tuple[str, object]]:
     """The rows that are printed; without a fleet those of a run that did not begin."""
-    rows: list[tuple[str, object]] = [('orders', orders), ('accepted', len(fleet.tasks) if fleet else 0)]
+    rows: list[tuple[str, object]] = [('orders', orders), ('accepted', fleet.accepted if fleet else 0)]
     if read and fleet:
-        ends = [task.done for task in read.tasks if task.done is not None]
+        ends = [task.done for task in read.tasks if task.done is not None and not task.done_before]
         rows.append(('done', len(ends)))
         rows += [('makespan', max(ends))] if ends else []
-        served = sorted(task.done - order.release for task, order in zip(read.tasks, fleet.tasks) if task.done is not None)
+        # an order that was released before the state is waited for since the state
+        since = [order.release if task.submitted < read.start else max(order.release, read.start) for task, order in zip(read.tasks, fleet.tasks)]
+        served = sorted(task.done - release for task, release in zip(read.tasks, since) if task.done is not None and not task.done_before)
         if served:
             # the nearest rank: 95 of 100 are no later than the one at 0.95 n, rounded up
             rows += [('service_mean', f'{statistics.mean(served):.2f}'), ('service_p95', served[-(-95 * len(served) // 100) - 1])]
-        last = max(ends, default=0)
+        last = max(ends, default=read.start) - read.start
         rows += [('per100', f'{100 * len(ends) / last:.2f}')] if last else []
     for name in ('clock', 'commands', 'requests', 'refused'):
         rows.append(('ticks' if name == 'clock' else name, getattr(fleet, name) if fleet else 0))
@@ -211,7 +215,7 @@ def run_fleet(fleet: Fleet, process: Process, kept: str | None = None, most: int
               close: bool = False) -> tuple[bytes, str, int]:
     """Drives a fleet to its end: the log, why the run ended before its end, and the status."""
     try:
-        if fleet.core.place:
+        if fleet.core.place and not fleet.has_state:
             fleet.core.end()    # the program ends the log again
             raise Stop(f'{kept} holds an earlier run ({fleet.core.place} entries), which this script cannot go on with: '
                        f'remove {kept} and {kept}.site, or name another file, or use --save')
@@ -241,7 +245,6 @@ def tell(options: argparse.Namespace, lines: list[str], rows: list[tuple[str, ob
 def drive(options: argparse.Namespace, instance: Instance, orders: list[Order], lines: TextIO | None) -> tuple[bytes, int]:
     """Drives the instance, and tells how it went; the log and the status."""
     process = Process(program_words(options), options.wait)
-    whereabouts = Whereabouts(instance, lines) if options.replies == 'full' else None
     no_log = 'no log came, so no delivery is told'
     try:
         core = Session(instance, log=options.log, told=None, replies=options.replies, process=process)
@@ -250,7 +253,9 @@ def drive(options: argparse.Namespace, instance: Instance, orders: list[Order], 
     except SessionError as error:
         tell(options, [str(error), no_log], figures(None, len(orders), None))
         return b'', 2
-    fleet = Fleet(core, orders, POLICIES[options.ask], options.batch, whereabouts, helpers=options.helpers)
+    state = core.state if core.state is not None and core.place == core.state.earlier else None    # with entries behind it, it does not say all
+    whereabouts = Whereabouts(instance, lines, state) if options.replies == 'full' else None
+    fleet = Fleet(core, orders, POLICIES[options.ask], options.batch, whereabouts, helpers=options.helpers, state=state)
     log, why, status = run_fleet(fleet, process, options.log, options.ticks, options.shift, options.close)
     said = [*map(str, core.restarts), *fleet.left_out, *([why] if why else []), *([] if log else [no_log])]
     for line in said:

@@ -8,23 +8,31 @@ to one cell, exchange two, or break `rule nofollow`. What is none of that is a `
 from __future__ import annotations
 
 import collections
+import copy
 from typing import TextIO
 
-from ..texts import Cell, Fault, Instance, Reader, standing
-from ..texts.log import OTHER_PAIR
+from ..texts import Cell, Fault, Instance, Reader, Run, Task, standing
+from ..texts.run import OTHER_PAIR
 
 
 class Whereabouts(Reader):
     """A run as its replies tell it, up to the last one; its lines are written where that is asked for."""
 
-    def __init__(self, instance: Instance, lines: TextIO | None = None):
-        super().__init__(standing(instance), '', 0)
+    def __init__(self, instance: Instance, lines: TextIO | None = None, state: Run | None = None):
+        super().__init__(copy.deepcopy(state) if state else standing(instance), '', 0)
         self.lines = lines
         self.stands = [paths[0].cells[0] for paths in self.run.paths]    # at the clock, and while vehicles go, at the next
         # how many tasks have their first, and their last visit at a clock to come
         self.picked: collections.Counter[int] = collections.Counter()
         self.dropped: collections.Counter[int] = collections.Counter()
-        self.write(0)
+        for task in self.run.tasks:
+            self.expect(task, [visit for visit in task.visits[task.before:] if visit > self.run.clock])
+        self.write(self.run.clock)
+
+    def expect(self, task: Task, visits: list[int]) -> None:
+        """These visits of the task are to come."""
+        self.picked.update(visits[:1] if visits == task.visits else [])
+        self.dropped.update(visits[-1:] if len(task.visits) == len(task.stops) else [])
 
     def fault(self, words: str) -> Fault:
         return Fault(words.removesuffix('; ' + OTHER_PAIR))
@@ -34,16 +42,17 @@ class Whereabouts(Reader):
         self.entry(f'0 {" ".join(line.split())} = {reply}')
 
     def adopt(self, caller: int, agent: int, reply: list[str], cells: list[Cell]) -> None:
+        own = self.run.halted.get(agent)
+        had = 0 if own is None else len(self.run.tasks[own].visits)
         super().adopt(caller, agent, reply, cells)
         path = self.run.paths[agent][-1]
         if path.task is not None:
-            last = self.run.instance.points[self.run.tasks[path.task].stops[-1]]
-            if path.served is None and cells[-1] != last.cell:
+            task = self.run.tasks[path.task]
+            last = self.run.instance.points[task.stops[-1]]
+            if path.point is None and path.served is None and cells[-1] != last.cell:
                 raise self.fault(f'the path of agent {agent} ends neither at {last.name}, the last stop of its task {path.task}, nor where it started')
             # a visit made as the path is taken stands in no tick's counts, and no tick comes to that clock
-            visits = self.run.tasks[path.task].visits
-            self.picked[visits[0]] += 1
-            self.dropped[visits[-1]] += 1
+            self.expect(task, task.visits[had:])
 
     def on_tick(self, caller: int, words: list[str], reply: list[str]) -> bool:
         if not super().on_tick(caller, words, reply):

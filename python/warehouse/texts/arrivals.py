@@ -1,4 +1,4 @@
-"""The file of arrivals, FILE.at: what vehicles have reported over all stops of a run."""
+"""The file of arrivals, FILE.at: what vehicles have reported over all stops of a run. Steps count from the log's first clock."""
 from __future__ import annotations
 
 import re
@@ -6,6 +6,7 @@ import re
 from .lines import MOST_NUMBER, Fault
 
 REPORT = re.compile(rb'at ([0-9]{1,10}) ([0-9]{1,10})')
+FRONT = re.compile(rb'front [0-9]{1,20} [0-9a-f]{64}')    # the first line beside a log that begins with a state
 
 
 def read_arrivals(name: str, data: bytes, agents: int) -> list[int]:
@@ -15,6 +16,8 @@ def read_arrivals(name: str, data: bytes, agents: int) -> list[int]:
     """
     steps = [0] * agents
     for number, line in enumerate(data.split(b'\n')[:-1], 1):
+        if FRONT.fullmatch(line):
+            continue
         found = REPORT.fullmatch(line)
         agent, step = map(int, found.groups()) if found else (0, MOST_NUMBER + 1)
         if max(agent, step) > MOST_NUMBER:

@@ -2,133 +2,31 @@
 
 A log tells the path that each agent takes, and not when a stop is visited: arrivals are redone here from paths and
 stops. An agent takes another path when it has gone to the end of its own; or, in a run with `--ends homes`, on its way
-home, where the new path takes the place of the rest. The paths themselves tell which of the two a run is.
+home, where the new path takes the place of the rest. The paths themselves tell which of the two a run is, or the front of its log.
+A log of version 3 may begin with a front, the state with which its run begins (`front`): then tasks may have an agent and visits, and an
+agent that stands with its task takes it again by a path through the stops that are left.
 Whatever cannot be read, or does not fit the instance, is a `Fault` with the file and its line.
 """
 from __future__ import annotations
 
 import bisect
-import collections
 import re
-from dataclasses import dataclass, field
-from typing import Any, Iterator
+from typing import Any, Iterable
 
+from .front import FrontReader
 from .instance import Cell, Instance
 from .lines import Fault, number_of
+from .run import OTHER_PAIR, Path, Run, Task, along
 
 MOST_CALLER = 63
 KINDS = ('submit', 'token', 'tick', 'close', 'replace')
-OTHER_PAIR = 'is this the log of another instance?'
-
-
-@dataclass
-class Task:
-    """An order that was accepted. Its clocks are the log's."""
-    client: str
-    stops: list[int]     # numbers of points
-    submitted: int
-    agent: int | None = None
-    taken: int | None = None
-    visits: list[int] = field(default_factory=list)    # the clocks of the visits made within the log
-
-    @property
-    def done(self) -> int | None:
-        return self.visits[-1] if len(self.visits) == len(self.stops) else None
-
-    @property
-    def service_time(self) -> int | None:
-        """Ticks from its submission to its last visit; None where it is not done."""
-        return None if self.done is None else self.done - self.submitted
-
-    def phase(self, clock: int) -> str:
-        """open, assigned, carried or done: after all entries of that clock; '' before it was handed in."""
-        if self.submitted > clock:
-            return ''
-        if self.taken is None or self.taken > clock:
-            return 'open'
-        made = bisect.bisect_right(self.visits, clock)
-        return 'assigned' if made == 0 else 'carried' if made < len(self.stops) else 'done'
-
-
-@dataclass
-class Path:
-    """A path that an agent took up at a clock, to serve a task or to park at a point: it is at cell k at clock + k, until it takes up
-    another. With `served` it goes on home behind that step, in which its task is delivered."""
-    clock: int
-    cells: list[Cell]
-    task: int | None = None
-    point: int | None = None
-    served: int | None = None
-
-    @property
-    def end(self) -> int:
-        """The clock from which the agent has no steps left."""
-        return self.clock + len(self.cells) - 1
-
-    @property
-    def free(self) -> int:
-        """The clock from which the agent may take up another."""
-        return self.end if self.served is None else self.clock + self.served
-
-    def at(self, clock: int) -> Cell:
-        """The cell at a clock of the path or behind it."""
-        return self.cells[min(clock - self.clock, len(self.cells) - 1)]
-
-
-@dataclass
-class Run:
-    """What a log tells, with the arrivals redone; clocks are those of the log."""
-    instance: Instance
-    start: int = 0
-    clock: int = 0
-    paths: list[list[Path]] = field(default_factory=list)    # of each agent, by clock; the first is its start alone
-    tasks: list[Task] = field(default_factory=list)
-    counts: list[tuple[int, int]] = field(default_factory=list)    # each tick's first and last visits, as the log says
-    events: list[tuple[Any, ...]] = field(default_factory=list)    # (clock, caller, kind, ..), without what is only counted
-    answers: collections.Counter[str] = field(default_factory=collections.Counter)    # requests for the token by answer
-    entries: int = 0
-    closed: bool = False
-    cut: bool = False    # a piece of a line follows, or behind `close` the last line lacks
-    homes: bool | None = None    # whether paths go on home; None where no path of a task tells
-
-    def path_at(self, agent: int, clock: int) -> Path:
-        paths = self.paths[agent]
-        return paths[bisect.bisect_right(paths, clock, key=lambda path: path.clock) - 1]
-
-    def cell_at(self, agent: int, clock: int) -> Cell:
-        return self.path_at(agent, clock).at(clock)
-
-    def differences(self) -> list[tuple[int, tuple[int, int], tuple[int, int]]]:
-        """The ticks whose counts are not those of the paths: clock, as the log says, as the paths give."""
-        found = [[0, 0] for _ in self.counts]
-        for task in self.tasks:
-            for k, visits in enumerate((task.visits[:1], task.visits[len(task.stops) - 1:])):
-                for visit in visits:
-                    # a visit made as the path is taken stands in no tick's counts
-                    if task.taken is not None and visit > task.taken:
-                        found[visit - self.start - 1][k] += 1
-        return [(self.start + 1 + i, told, (have[0], have[1])) for i, (told, have) in enumerate(zip(self.counts, found))
-                if told != tuple(have)]
-
-
-def standing(instance: Instance) -> Run:
-    """The run of no entries: each agent stands at its start."""
-    return Run(instance, paths=[[Path(0, [instance.points[point].cell], point=point)] for point in instance.starts])
-
-
-def steps_made(run: Run) -> Iterator[tuple[Cell, Cell]]:
-    """Each step that the paths tell and the log's clock has reached, as the cells before and after."""
-    for paths in run.paths:
-        for path, until in zip(paths, [*(path.clock for path in paths[1:]), run.clock]):
-            made = path.cells[:until - path.clock + 1]
-            yield from zip(made, made[1:])
 
 
 def log_text(name: str, data: bytes) -> tuple[int, bytes]:
     """The log in what was given, where replies or an instance and a line `%%` may stand before it; and the lines before."""
     begin = re.search(rb'(?:\A|(?:\A|\n)%%\r?\n)(?=wlog )', data)
     if begin is None:
-        raise Fault('no log is in it: a line `wlog 1` or `wlog 2` comes first, or behind a line `%%`', name)
+        raise Fault('no log is in it: a line `wlog 1`, `wlog 2` or `wlog 3` comes first, or behind a line `%%`', name)
     return data.count(b'\n', 0, begin.end()), data[begin.end():]
 
 
@@ -141,9 +39,22 @@ def read_log(instance: Instance, name: str, data: bytes) -> Run:
     for line in lines:
         reader.line += 1
         reader.read(line)
-    if not reader.run.paths:
-        raise Fault('the log is cut before its second line', name, reader.line + 1)
+    if not reader.has_begun:
+        raise Fault('the log is cut before its entries begin', name, reader.line + 1)
     return reader.finish(torn)
+
+
+def read_front(instance: Instance, name: str, lines: Iterable[bytes]) -> Run | None:
+    """The state with which a log of these lines begins, with the visits to which its paths lead; None where it begins with none. Raises Fault."""
+    reader = Reader(Run(instance), name, 0)
+    for number, line in enumerate(lines, 1):
+        if not line.endswith(b'\n') or number == 1 and line != b'wlog 3\n' or number == 2 and not line.startswith(b'after '):
+            return None
+        reader.line = number
+        reader.read(line.decode('latin-1')[:-1])
+        if reader.has_begun:
+            return reader.run
+    return None
 
 
 class Reader:
@@ -152,7 +63,9 @@ class Reader:
     def __init__(self, run: Run, name: str, line: int):
         self.run, self.name, self.line = run, name, line
         self.first = line + 1
-        self.ended = False
+        self.front: FrontReader | None = None
+        self.has_begun = self.ended = False        # behind the lines before the entries; behind the last line
+        self.grown: list[int] = []                 # tasks with more visits to come than before, in order
         self.events: list[tuple[Any, ...]] = []    # with keys in front that sort them
         self.known: dict[str, Cell] = {}           # passable cells by their words
 
@@ -161,10 +74,11 @@ class Reader:
 
     def read(self, line: str) -> None:
         if self.line == self.first:
-            if line not in ('wlog 1', 'wlog 2'):
-                raise self.fault('a log begins with `wlog 1` or `wlog 2`')
-        elif self.line == self.first + 1:
-            self.open(line.split(' '))
+            if line not in ('wlog 1', 'wlog 2', 'wlog 3'):
+                raise self.fault('a log begins with `wlog 1`, `wlog 2` or `wlog 3`')
+            self.run.version = int(line[-1])
+        elif not self.has_begun:
+            self.open(line)
         elif self.ended:
             raise self.fault('the log has ended before')
         elif line.startswith('end '):
@@ -174,7 +88,19 @@ class Reader:
         else:
             self.entry(line)
 
-    def open(self, words: list[str]) -> None:
+    def open(self, line: str) -> None:
+        """Takes a line before the entries: the second one, or one of a front."""
+        words = line.split(' ')
+        if self.front is None and not (self.run.version == 3 and words[0] == 'after'):
+            return self.start(words)
+        if self.front is None:
+            self.front = FrontReader(self.run, self.fault, self.new_cells)
+        self.front.read(line)
+        if self.front.is_done:
+            self.has_begun = True
+            self.grown += [number for number, task in enumerate(self.run.tasks) if len(task.visits) > task.before]
+
+    def start(self, words: list[str]) -> None:
         run = self.run
         start = number_of(words[1]) if words[0] == 'start' and words[2:3] == ['slots'] else None
         if start is None:
@@ -184,6 +110,7 @@ class Reader:
             raise self.fault(f'the log has {len(words) - 3} agents, the instance {agents}; {OTHER_PAIR}')
         run.start = run.clock = start
         run.paths = [[Path(start, [run.instance.points[point].cell], point=point)] for point in run.instance.starts]
+        self.has_begun = True
 
     def entry(self, line: str) -> None:
         """Takes `CALLER COMMAND = REPLY`, a path told by all its cells."""
@@ -237,6 +164,8 @@ class Reader:
         if path.free > run.clock:
             raise self.fault(f'agent {agent} is answered {reply[0]}, and due in {path.free - run.clock} ticks')
         if reply[0] == 'rested':
+            if agent in run.halted:
+                raise self.fault(f'agent {agent} is answered rested, and has task {run.halted[agent]}')
             return len(reply) == 1
         if len(reply) < 4 or reply[2] != 'path':
             return False
@@ -278,21 +207,37 @@ class Reader:
             point = run.instance.by_name.get(reply[1])
             if point is None or run.instance.points[point].cell != cells[-1]:
                 raise self.fault(f'the path of agent {agent} does not end at a point {reply[1]}; {OTHER_PAIR}')
-            run.paths[agent].append(Path(clock, cells, point=point))
+            own = run.halted.get(agent)
+            if own is not None:
+                self.visit(agent, own, cells)
+            run.paths[agent].append(Path(clock, cells, own, point, 0 if run.homes and own is None else None))
             self.note(caller, 'parked', agent, point, len(cells) - 1)
             return
-        number = number_of(reply[1])
-        if number is None or number >= len(run.tasks) or run.tasks[number].agent is not None:
-            raise self.fault(f'no task {reply[1]} is open')
+        number = self.taken_by(agent, reply[1])
         task = run.tasks[number]
+        had = len(task.visits)
         self.visit(agent, number, cells)
-        task.agent, task.taken = agent, clock
+        if len(task.visits) < len(task.stops):
+            missed = run.instance.points[task.stops[len(task.visits)]]
+            raise self.fault(f'the path of agent {agent} does not come to {missed.name} at {missed.cell[0]},{missed.cell[1]}, '
+                             f'a stop of its task {number}; {OTHER_PAIR}')
+        if task.agent is None:
+            task.agent, task.taken = agent, clock
         served = task.visits[-1] - clock if self.goes_home(agent, number, cells) else None
         run.paths[agent].append(Path(clock, cells, task=number, served=served))
         self.note(caller, 'took', agent, number, len(cells) - 1)
         # visits made at once stand right behind; the others are noted when the log's last clock is known
         self.events += [self.events[-1][:2] + (len(self.events) + i, clock, caller, 'visit', number, i)
-                        for i, visit in enumerate(task.visits) if visit == clock]
+                        for i, visit in enumerate(task.visits[had:], had) if visit == clock]
+
+    def taken_by(self, agent: int, word: str) -> int:
+        """The number of the task that the agent takes: one that is open, or its own, where it has one."""
+        number, own, tasks = number_of(word), self.run.halted.get(agent), self.run.tasks
+        if own is not None and own != number:
+            raise self.fault(f'agent {agent} takes task {word}, and has task {own}')
+        if number is None or number >= len(tasks) or own is None and tasks[number].agent is not None:
+            raise self.fault(f'no task {word} is open')
+        return number
 
     def goes_home(self, agent: int, number: int, cells: list[Cell]) -> bool:
         """Whether the path of a task goes on to where the agent started, and does not end at the last stop: as all others of the run."""
@@ -304,17 +249,13 @@ class Reader:
         return homes
 
     def visit(self, agent: int, number: int, cells: list[Cell]) -> None:
-        """When the path comes to each stop of the task, in turn."""
-        task, points = self.run.tasks[number], self.run.instance.points
-        try:
-            k = 0
-            for stop in task.stops:
-                k = cells.index(points[stop].cell, k)
-                task.visits.append(self.run.clock + k)
-        except ValueError:
-            missed = points[task.stops[len(task.visits)]]
-            raise self.fault(f'the path of agent {agent} does not come to {missed.name} at {missed.cell[0]},{missed.cell[1]}, '
-                             f'a stop of its task {number}; {OTHER_PAIR}') from None
+        """When the path comes to each stop that is left of the agent's task, in turn, as far as it does."""
+        run = self.run
+        task = run.tasks[number]
+        task.visits += [run.clock + step for step in along([run.instance.points[stop].cell for stop in task.stops[len(task.visits):]], cells)]
+        self.grown.append(number)
+        if len(task.visits) == len(task.stops):
+            run.halted.pop(agent, None)
 
     def on_tick(self, caller: int, words: list[str], reply: list[str]) -> bool:
         run = self.run

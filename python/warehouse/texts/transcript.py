@@ -16,7 +16,7 @@ from dataclasses import dataclass, field
 
 from .instance import Cell
 from .lines import Fault, lines_of, number_of
-from .log import Run, Task
+from .run import Run, Task
 
 NUMBERS = {'clock': 1, 'go': 4, 'arrived': 2, 'visited': 3, 'held': 2}    # that are read of a line; `held` is `refused V1`
 OTHER_RUN = 'is this the transcript of another run?'

@@ -37,6 +37,7 @@ class Follower:
         self.events: list[tuple[Any, ...]] = []
         self.kept: list[int] = []                               # tasks that a page may need
         self.coming: dict[int, list[tuple[int, int]]] = {}      # of a clock the visits that the plan makes then
+        self.planned: dict[int, int] = {}                       # of tasks whose paths do not lead through all stops, how many these are
         self.served: deque[tuple[int, int]] = deque(maxlen=10_000)    # deliveries: when, and ticks since the order came in
         self.missing: deque[int] = deque(maxlen=10_000)         # when E6 came
         self.resting: set[bytes] = set()                        # agents that were answered `rested` since the last change
@@ -72,6 +73,8 @@ class Follower:
             self.read(lines)
             data = b''.join(line + b'\n' for line in reports)
             self.steps = [max(pair) for pair in zip(self.steps, read_arrivals(self.reports.path, data, len(self.steps)))]
+            if not self.reader.has_begun:
+                return None
         except Fault as fault:
             self.fault, self.number = str(fault), self.number + 1
             return None
@@ -93,22 +96,23 @@ class Follower:
         run, now = self.run, self.now()
         events = [event[3:] for event in self.reader.events]
         self.reader.events.clear()
-        taken = [event[4] for event in events if event[2] == 'took']
-        self.kept += range(tasks, len(run.tasks))
-        self.plan(taken)
-        events = sorted(self.visits(clock, now) + events, key=lambda event: int(event[0]))    # at a clock the tick's visits come first
+        grown, self.reader.grown = sorted(set(self.reader.grown)), []
+        self.kept += range(0 if self.is_new else tasks, len(run.tasks))
+        self.plan(grown)
+        events = sorted(self.visits(max(clock, run.start), now) + events, key=lambda event: int(event[0]))    # at a clock the tick's visits come first
         self.events += events
         self.moved = now
         if self.is_new:
+            self.done += sum(task.done_before for task in run.tasks)
             self.start()
             return None
         if self.vehicles:
-            self.vehicles.take(now, self.steps, run.clock - clock)
+            self.vehicles.take(now, self.places(), run.clock - clock)
             self.deliver(now)
         ways = [[agent, way_of(path)] for agent, count in enumerate(had) for path in run.paths[agent][count:]]
         found = {'clock': run.clock, 'entries': run.entries, 'answers': dict(run.answers), 'events': events, 'ways': ways,
                  'tasks': [[*task_of(run.tasks[i]), i] for i in range(tasks, len(run.tasks))],
-                 'changed': [[i, *task_of(run.tasks[i])[3:]] for i in taken if i < tasks],
+                 'changed': [[i, *task_of(run.tasks[i])[3:]] for i in grown if i < tasks],
                  'vehicles': self.vehicles.news(run.clock - clock) if self.vehicles else None}
         self.trim()
         return found
@@ -119,19 +123,28 @@ class Follower:
         self.served.clear()
         self.missing.clear()
         if self.reports.is_there:
-            self.vehicles = Vehicles(self.run, self.ahead, self.steps, self.now())
-            self.plan([i for i, task in enumerate(self.run.tasks) if task.taken is not None])
+            self.vehicles = Vehicles(self.run, self.ahead, self.places(), self.now())
+            for number, task in enumerate(self.run.tasks):
+                if task.agent is not None:
+                    self.vehicles.plan(task.agent, number)
             self.done = sum(self.vehicles.is_done(i) for i in self.kept)
         self.trim(True)
 
-    def plan(self, taken: list[int]) -> None:
-        """The visits of these tasks are to come."""
-        for number in taken:
+    def places(self) -> list[int]:
+        """Of each vehicle the clock at which the plan is where it has arrived: steps are counted from the log's first clock."""
+        return [self.run.start + step for step in self.steps]
+
+    def plan(self, grown: list[int]) -> None:
+        """Visits of these tasks are to come, which were not before."""
+        for number in grown:
             task = self.run.tasks[number]
             if self.vehicles and task.agent is not None:
                 self.vehicles.plan(task.agent, number)
-            for k, visit in enumerate(task.visits):
+            had = self.planned.pop(number, task.before)
+            for k, visit in enumerate(task.visits[had:], had):
                 self.coming.setdefault(visit, []).append((number, k))
+            if len(task.visits) < len(task.stops):
+                self.planned[number] = len(task.visits)
 
     def visits(self, clock: int, now: int) -> list[tuple[Any, ...]]:
         """Events of the visits that the plan makes from that clock on."""
@@ -185,7 +198,7 @@ class Follower:
         """The last minutes, as a run."""
         run, first = self.run, self.first()
         tasks = [number for number in self.kept if not self.is_over(number, first)]
-        return floor_of(self.instance, self.title) | {
+        return floor_of(run.instance, self.title) | {
             'live': True, 'start': 0 if self.vehicles else first, 'clock': run.clock, 'cut': False, 'entries': run.entries, 'verified': None,
             'differ': [], 'answers': dict(run.answers), 'ways': [[way_of(path) for path in paths] for paths in run.paths],
             'tasks': [[*task_of(run.tasks[number]), number] for number in tasks], 'events': [event for event in self.events if event[0] >= first],

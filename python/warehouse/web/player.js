@@ -184,7 +184,7 @@ function player(root) {
       ctx.strokeStyle = C.point; ctx.lineWidth = 1; ctx.fillStyle = C.dim; ctx.textAlign = 'left'; ctx.font = `${Math.min(11, S / 3)}px sans-serif`;
       for (const [kind, name, x, y] of R.points) {
         const a = OX + x * S, b = OY + y * S;
-        if (a < -S || b < -S || a > W || b > H) continue;
+        if (a < -S || b < -S || a > W || b > H || kind == 'g') continue;    // g: one that the floor has no more
         ctx.setLineDash(kind == 'p' ? [2, 2] : []); ctx.strokeRect(a + 1.5, b + 1.5, S - 3, S - 3);
         if (S >= 22) ctx.fillText(name, a + 3, b + Math.min(12, S / 2.4));
       }
@@ -259,7 +259,7 @@ function player(root) {
     const c = clockAt(t), w = way(a, c), v = V && vehicle(a, t), [x, y] = V ? v.cells[0] : place(a, t), left = Math.max(0, w.clock + w.last - c), load = loadOf(a, t);
     let did = 0; if (V) did = own[a].filter(x => x.done <= t).length; else for (let i = 0, n = upTo(R.ways[a], t, v => v[0] - R.start); i < n; i++) { const x = byNumber.get(R.ways[a][i][3]); if (x && x.done <= t) did++; }
     const doing = load ? (phase(load, t) == 1 ? `goes to fetch task ${load.i} at ${name(load.stops[0])}` : `carries task ${load.i} to ${name(load.stops[made(load, t)])}`)
-      : left || v && v.behind ? (w.task < 0 ? `goes to park at ${name(w.point)}` : goesHome(w) ? `goes home, task ${w.task} is done` : `ends the way of task ${w.task}, which is done`) : 'rests';
+      : left || v && v.behind ? (w.task < 0 ? w.point < 0 ? 'is on a path' : `goes to park at ${name(w.point)}` : goesHome(w) ? `goes home, task ${w.task} is done` : `ends the way of task ${w.task}, which is done`) : 'rests';
     const late = !V ? '' : (v.cells.length > 1 ? `, granted ${v.cells.slice(1).map(k => k.join(',')).join(' ')}` : '')
       + (v.behind ? `\n${v.behind} steps behind its plan, which is at ${cell(a, v.clock).join(',')}` : '');
     return `${a} at ${x},${y}: ${doing}${late}\n${left} steps left${V ? ' in its plan' : ''}, tasks done: ${did}`;
@@ -310,7 +310,7 @@ function player(root) {
     if (x < 0 || y < 0 || x >= R.width || y >= R.height) { box.style.display = 'none'; return; }
     const lines = [`${x},${y}${barred[y * R.width + x] ? ' blocked' : ''}`], i = pointAt.get(x + ',' + y);
     if (i !== undefined) {
-      lines[0] += ` ${R.points[i][0] == 's' ? 'station' : 'parking'} ${name(i)}`; let more = 0;
+      lines[0] += ` ${{s: 'station', p: 'parking', g: 'was a station:'}[R.points[i][0]]} ${name(i)}`; let more = 0;
       for (const k of liveTasks(t)) if (phase(k, t) < 3 && k.stops.includes(i)) { if (lines.length < 7) lines.push(`task ${k.i} ${PHASES[phase(k, t)]}: ${k.stops.map(name).join(' → ')}`); else more++; }
       if (more) lines.push(`and ${more} more`);
     }
