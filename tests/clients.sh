@@ -82,12 +82,12 @@ verified() {
     { cat -- "$scratch/site"; echo %%; cat -- "$1"; } | "$warehouse" verify
 }
 
-# A service that has ended well: its log is what `verify` takes, and it printed the same log.
+# A service that has ended well: its log is what `verify` takes, and it printed nothing.
 #   judge_log NAME ENTRIES
 judge_log() {
     judge "$1: status" "$how" 0
     judge "$1: log" "$(verified "$scratch/log")" "run $2"
-    judge "$1: the same log told" "$(cmp -- "$scratch/log" "$scratch/told" 2>&1)" ''
+    judge "$1: nothing told" "$(wc -c < "$scratch/told")" 0
 }
 
 # Waits until the log has so many such lines, 20 seconds at most.

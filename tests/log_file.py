@@ -8,6 +8,7 @@ the same script at one go, `replay --tail log`. A full disk is a small one of it
 where none may be, that is said, and tests/order.py has the same by a library. The last line is `N passed, M failed`.
 """
 import fcntl
+import hashlib
 import os
 import resource
 import shutil
@@ -317,6 +318,38 @@ def test_no_file_beside() -> None:
         is_left(file, replay(CROSS.site, file), b'refused X5\n', 3, CROSS.text(5))
 
 
+# -------------------------------------------------------------------------------------------- where a run stands
+
+def state(file: str, *words: str) -> tuple[bytes, bytes, int]:
+    """What `state` says of a file, which stays as it is, with nothing made beside it."""
+    before, beside = read_file(file), sorted(os.listdir(os.path.dirname(file)))
+    done = subprocess.run([PROGRAM, 'state', '--log', file, *words], input=CROSS.site, capture_output=True, timeout=60)
+    same((read_file(file), sorted(os.listdir(os.path.dirname(file)))), (before, beside))
+    return done.stdout, done.stderr, done.returncode
+
+
+def test_the_state_after_each_entry() -> None:
+    # of a log that ends there, also in a torn line, and of the whole one, as far as there
+    entries = CROSS.text(99).count(b' = ')
+    demand(entries > 3, 'there are few entries')
+    for count in range(entries + 1):
+        text = CROSS.text(count)
+        front, errors, status = state(path('log', text))
+        same((errors, status), (b'', 0))
+        same(front.split(b'\n')[1], b'after 1 %d %s' % (len(text), hashlib.sha256(text).hexdigest().encode()))
+        same(state(path('log', text + b'62 tic')), (front, b'', 0))
+        same(state(path('log', CROSS.text(entries)), '--after', str(count)), (front, b'', 0))
+    same(state(path('log', CROSS.text(entries)), '--after', str(entries + 1)), (b'', b'refused L1 line 0\n', 1))
+
+
+def test_no_state_of_a_file_that_another_has() -> None:
+    file = path('log', CROSS.text(5))
+    with open(file, 'rb') as held:
+        fcntl.flock(held, fcntl.LOCK_EX)
+        same(state(file), (b'', b'refused X5\n', 3))
+    same(state(path()), (b'', b'refused X5\n', 3))
+
+
 # -------------------------------------------------------------------------------------- what is a line, and when
 
 def test_a_line_that_was_cut() -> None:
@@ -388,7 +421,7 @@ def test_no_regular_file() -> None:
 
 def test_another_text() -> None:
     head = CROSS.head
-    for text, line in ((b'my notes', 1), (b'my notes\n', 1), (b'\n', 1), (b'\0', 1), (b'\0' * 5000, 1), (b'wlog 3\n', 1),
+    for text, line in ((b'my notes', 1), (b'my notes\n', 1), (b'\n', 1), (b'\0', 1), (b'\0' * 5000, 1), (b'wlog 3\n', 2),
                        (b'wlog 2', 0), (b'w', 0), (b'wlog 2 \n', 1), (b'wlog 2\r\n', 1), (b'wlog 2\n', 0), (b'wlog 2\nstart 0 slots 4 4', 0),
                        (b'wlog 2\nnotes', 2), (b'wlog 2\nstart 0 slots 4\n', 2), (b'wlog 2\nstart 0 slots 4 4 4\n', 2),
                        (b'wlog 2\nstart 0 slots 1 4\n', 2), (b'wlog 2\nstart 0 slots 65 4\n', 2), (b'wlog 2\nstart 0 slots 4 4 \n', 2),
@@ -400,7 +433,8 @@ def test_another_text() -> None:
         file = path('log', text)
         outcome = replay(script(), file)
         if line:
-            is_left(file, outcome, b'refused L1 line %d\n' % line, 1, text)
+            reason = b'refused S1\n' if text.startswith(b'wlog 3\n') else b''
+            is_left(file, outcome, reason + b'refused L1 line %d\n' % line, 1, text)
         else:
             same((outcome, read_file(file)), ((b'entries 0\n', b'', 0), head))
 

@@ -1,7 +1,7 @@
 #!/usr/bin/env bash
-# Runs the built program on each case of replay, check, tail and verify: NAME is its input, NAME.args its arguments (one
-# word a line), NAME.stdout what it must write; NAME.stderr (none: nothing) and NAME.status (none: 0) likewise. WAREHOUSE
-# names another program than the one that the gate built.
+# Runs the built program on each case of replay, check, tail, verify and state: NAME is its input, NAME.args its arguments
+# (one word a line), NAME.stdout what it must write; NAME.stderr (none: nothing) and NAME.status (none: 0) likewise. The logs
+# of state are to stay as they are. WAREHOUSE names another program than the one that the gate built.
 set -u
 warehouse=$(readlink -f -- "${WAREHOUSE:-$(dirname -- "${BASH_SOURCE[0]}")/../crates/warehouse/out/warehouse}")
 [[ -x $warehouse ]] || { echo "no program: set WAREHOUSE, or run ./test"; echo '0 passed, 1 failed'; exit 1; }
@@ -10,7 +10,8 @@ cd -- "$(dirname -- "${BASH_SOURCE[0]}")" || exit 1
 scratch=$(mktemp -d) || exit 1
 trap 'rm -rf -- "$scratch"' EXIT
 passed=0 failed=0
-for wanted in replay/*.stdout check/*.stdout tail/*.stdout verify/*.stdout; do
+logs=$(cd state && sha256sum -- *.log)
+for wanted in replay/*.stdout check/*.stdout tail/*.stdout verify/*.stdout state/*.stdout; do
     name=${wanted%.stdout}
     mapfile -t words < "$name.args"
     "$warehouse" "${words[@]}" < "$name" > "$scratch/stdout" 2> "$scratch/stderr"
@@ -28,5 +29,11 @@ for wanted in replay/*.stdout check/*.stdout tail/*.stdout verify/*.stdout; do
         diff -u "$errors" "$scratch/stderr"
     fi
 done
+if [[ $(cd state && sha256sum -- *.log) == "$logs" ]]; then
+    passed=$((passed + 1))
+else
+    failed=$((failed + 1))
+    echo 'state: a log was changed or made'
+fi
 echo "$passed passed, $failed failed"
 ((failed == 0))
