@@ -276,8 +276,8 @@ def test_a_service_with_its_streams_closed() -> None:
             running.kill()
             running.communicate()
         log = CROSS.head + b'0 tick = clock 1 picked 0 dropped 0\n0 close = closed\nend 2\n'
-        told = b'refused X1\n' if closed & 1 else b'refused X3\n' if closed & 2 else b''
-        same((shell, said, errors, running.returncode), (shell, b'' if told else log, b'' if closed & 4 else told, 3 if told else 0))
+        told = b'refused X1\n' if closed & 1 else b''
+        same((shell, said, errors, running.returncode), (shell, b'', b'' if closed & 4 else told, 3 if told else 0))
         # without input no run begins; else its files are whole, whatever was to be told
         kept = standing(room, 'site')
         board = kept.pop('board', None)

@@ -85,7 +85,7 @@ def test_lintian():
 def test_manuals():
     needs('man', 'man-db')
     _, top = package()
-    for name, wanted in (('warehouse', 'replay'), ('warehouse-py', 'dashboard')):
+    for name, wanted in (('warehouse', '--replies'), ('warehouse-py', 'dashboard')):
         done = run('man', '--warnings', '-l', f'{top}/usr/share/man/man1/{name}.1.gz', env={**os.environ, 'MANPAGER': 'cat', 'MANWIDTH': '80', 'LC_ALL': 'C'})
         assert (done.returncode, done.stderr) == (0, ''), done
         assert wanted in done.stdout, done.stdout
@@ -101,7 +101,7 @@ def completed(*words):
 
 
 def test_completion():
-    assert completed('warehouse', '') == ['check', 'replay', 'verify', 'live', 'serve', 'help', '--help', '--version']
+    assert completed('warehouse', '') == ['check', 'replay', 'verify', 'live', 'serve', 'state', 'help', '--help', '--version']
     assert completed('warehouse', 'replay', '--repl') == ['--replies']
     assert sorted(completed('warehouse', 'replay', '--replies', '')) == ['full', 'placed', 'short']
     assert completed('warehouse', 'serve', '--cli') == ['--client']
