@@ -8,6 +8,28 @@ from collections import deque
 LAST_CLOCK, MOST_TASKS = 10 ** 9, 10 ** 6
 
 
+# a row of cells with a station at each side of two places, two agents, and a parking more
+CROSSING = """type octile
+height 3
+width 6
+map
+@.@.@@
+......
+@.@.@@
+%%
+parking P0 0 1
+parking P1 4 1
+parking P2 5 1
+station A 1 0
+station B 3 0
+station C 1 2
+station D 3 2
+agent P0
+agent P1
+%%
+"""
+
+
 class Bad(Exception):
     """An entry that no run has here."""
 

@@ -328,25 +328,7 @@ def same(seed, text, found, wanted):
 
 # ---- rows worked out by hand
 
-SITE = '''type octile
-height 3
-width 6
-map
-@.@.@@
-......
-@.@.@@
-%%
-parking P0 0 1
-parking P1 4 1
-parking P2 5 1
-station A 1 0
-station B 3 0
-station C 1 2
-station D 3 2
-agent P0
-agent P1
-%%
-'''
+SITE = ends.CROSSING
 # Agent 0 carries task 1 from A to B; agent 1 rests at P1; task 0 is done, at stops of which one is a wall now; task 2 is open.
 ROW = f'''wlog 3
 after 1 805 {SUM}

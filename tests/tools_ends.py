@@ -24,25 +24,7 @@ ROOT = os.path.dirname(os.path.dirname(os.path.abspath(__file__)))
 PROGRAM = os.environ.get('WAREHOUSE') or os.path.join(ROOT, 'crates/warehouse/out/warehouse')
 SCRATCH = tempfile.TemporaryDirectory()
 OPTIONS = argparse.Namespace(runs=12, seed=1)
-SITE = """type octile
-height 3
-width 6
-map
-@.@.@@
-......
-@.@.@@
-%%
-parking P0 0 1
-parking P1 4 1
-parking P2 5 1
-station A 1 0
-station B 3 0
-station C 1 2
-station D 3 2
-agent P0
-agent P1
-%%
-"""
+SITE = ends.CROSSING
 ALONE = SITE.replace('agent P1\n', '')
 TAKEN = ['submit x A B = accepted 0', 'token 0 = took 0 path 0,1 1,1 1,0 1,1 2,1 3,1 3,0 3,1 2,1 1,1 0,1']
 # two ticks to A, four more to B
