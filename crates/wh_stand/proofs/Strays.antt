@@ -1,25 +1,22 @@
 -- an agent is on its way exactly if its path ends at a berth and leads through the stops left of the task that its load tells
-use Rattle.std.proofs.Common.{◌≡◌, ℕ, ◌+◌, ◌<◌, ◌≤◌, ◌∙◌, ◌⊎◌, inl, inr, List, [], ◌∷◌, ◌++◌, Bool, true, false, Option, Some, None, length, take, get_or, refl, sym, ap, subst, arith}
-use Rattle.std.specs.Prelude.{Contains, ◌↔◌}
-use Rattle.std.proofs.lemmas.Option.{same_Some, slice_get-get_or}
+use Rattle.std.proofs.Common.{◌≡◌, ℕ, ◌+◌, ◌<◌, ◌≤◌, ◌∙◌, inl, inr, List, [], ◌∷◌, ◌++◌, Some, None, length, take, get_or, refl, sym, ap, subst, arith}
+use Rattle.std.specs.Prelude.{Contains}
+use Rattle.std.proofs.lemmas.Option.{same_Some}
 use Rattle.std.proofs.lemmas.List.{take_more, take_all, get_or_default}
 use Rattle.std.proofs.lemmas.List.Elements.{Contains-push_cases, Contains-get_or}
 use Rattle.wh_grid.specs.declared.cell.Cell.{Cell}
-use Rattle.wh_grid.specs.Grids.{Floor}
-use Rattle.wh_path.specs.Paths.{path_of, end, end_of}
+use Rattle.wh_path.specs.Paths.{path_of, end_of}
 use Rattle.wh_points.specs.declared.points.Point.{Point}
 use Rattle.wh_points.specs.Points.{Layout, Site, IsPointCell}
 use Rattle.wh_tasks.specs.declared.task.Task.{Task}
 use Rattle.wh_tasks.specs.declared.task.Load.{Load}
-use Rattle.wh_tasks.specs.declared.task.Phase.{Phase}
-use Rattle.wh_tasks.specs.Tasks.{IsTask, phase, visited, stops_left, load_for}
+use Rattle.wh_tasks.specs.Tasks.{IsTask, visited, stops_left}
 use Rattle.wh_tasks.specs.Loads.{task_of}
 use Rattle.wh_planner.specs.Duties.{Delivers}
 use Rattle.wh_core.specs.States.{State, load_of}
 use Rattle.wh_core.specs.Steps.{IsBerth, IsOwn, tour}
-use Rattle.wh_core.specs.Laws.{IsSound, IsOnItsWay, LoadsAgree}
+use Rattle.wh_core.specs.Laws.{IsSound, IsOnItsWay}
 use Rattle.wh_stand.specs.Ways.{IsAtPoint}
-use Rattle.wh_stand.specs.TaskFlaws.{IsHeld}
 use Rattle.wh_stand.proofs.Holding.{phase-held, held-phase}
 use Rattle.wh_stand.proofs.Soundness.{own-held, held-own, sound-one}
 
@@ -52,11 +49,11 @@ none_own site s agent n task sound known none own = elim (held-phase agent task 
 ]
 
 -- ---- what was read is so
-pub load_read : (s : State) (agent : ℕ) (load : Load) → agent < length s.loads → load ≡ get_or s.loads agent load → load ≡ load_of s agent
-load_read s agent load h e = e ∙ get_or_default s.loads agent load Load.None h
+pub path_seen : (paths seen : List (List Cell)) (agent : ℕ) (path : List Cell) → agent < length paths → seen ≡ paths → path ≡ get_or seen agent path → path ≡ path_of paths agent
+path_seen paths seen agent path h same e = e ∙ ap (λ ps. get_or ps agent path) same ∙ get_or_default paths agent path [] h
 
-pub task_read : (tasks : List Task) (n : ℕ) (read task : Task) → IsTask tasks n task → n < length tasks → read ≡ get_or tasks n read → read ≡ task
-task_read tasks n read task is h e = e ∙ same_Some (get_or tasks n read) task (sym (slice_get-get_or tasks n read h) ∙ is)
+pub task_seen : (tasks : List Task) (n : ℕ) (one other : Task) → IsTask tasks n one → IsTask tasks n other → one ≡ other
+task_seen tasks n one other a b = same_Some one other (sym a ∙ b)
 
 pub task_known : (tasks : List Task) (n : ℕ) (task : Task) → IsTask tasks n task → n < length tasks
 task_known tasks n task is = below tasks n task is

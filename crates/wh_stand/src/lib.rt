@@ -15,7 +15,7 @@ mod work;
 
 pub use builder::StateBuilder;
 pub use flaw::{Flaw, Refused};
-pub use ways::first_stray;
+pub use ways::{first_stray, is_berth, leads_on};
 
 // handed on, for callers: what the items above return
-pub use wh_state::StateParts;
+pub use wh_state::{FleetState, StateParts};

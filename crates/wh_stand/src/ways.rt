@@ -10,14 +10,13 @@ ghost use Rattle.wh_tasks.specs.Tasks.{visited, stops_left};
 ghost use Rattle.wh_planner.specs.Duties.{Delivers};
 ghost use Rattle.wh_core.specs.Steps.{IsBerth, homeward};
 ghost use Rattle.wh_core.specs.Laws.{IsBeginning, IsOnItsWay, AllOnTheirWays};
-ghost use Rattle.wh_state.specs.Columns.{state_in};
 ghost use Rattle.wh_stand.specs.Ways.{GoesPast, IsAtPoint, IsFirstStray, site_at};
 ghost use Rattle.wh_stand.specs.Ways as ways;
 
 use wh_grid::Cell;
 use wh_path::TimedPath;
 use wh_points::{Point, Points};
-use wh_state::StateParts;
+use wh_state::FleetState;
 use wh_tasks::Task;
 
 /// How many stops are behind an agent that comes to the cell with `before` of them behind it.
@@ -81,7 +80,7 @@ fn home(points: &Points, agent: usize) -> Cell
 }
 
 /// Whether the agent may come to rest at the cell. Each point is looked at.
-fn is_berth(points: &Points, homes: bool, agent: usize, cell: Cell) -> bool
+pub fn is_berth(points: &Points, homes: bool, agent: usize, cell: Cell) -> bool
     requires { agent < length points.now.agents }
     ensures { (grid : Floor) → IsTrue result ↔ IsBerth (site_at grid points.now homes) agent cell }
 {
@@ -91,8 +90,8 @@ fn is_berth(points: &Points, homes: bool, agent: usize, cell: Cell) -> bool
     has_point(points.as_slice(), cell)
 }
 
-/// Whether the path leads the agent of the task through the stops that are left of it.
-fn leads_on(points: &Points, homes: bool, agent: usize, task: &Task, path: &TimedPath) -> bool
+/// Whether the path leads the agent of the task through the stops that are left of it, and home if paths go on home.
+pub fn leads_on(points: &Points, homes: bool, agent: usize, task: &Task, path: &TimedPath) -> bool
     requires known { agent < length points.now.agents }
     requires left { visited task.now < length task.now.stops }
     ensures { IsTrue result ↔ Delivers (homeward homes (home_of points.now agent) (stops_left task.now)) path.now }
@@ -103,32 +102,32 @@ fn leads_on(points: &Points, homes: bool, agent: usize, task: &Task, path: &Time
 }
 
 /// Whether the agent is on its way.
-fn is_on_its_way(points: &Points, homes: bool, parts: &StateParts, agent: usize) -> bool
-    requires begins { (grid : Floor) × IsBeginning (site_at grid points.now homes) (state_in parts.now) }
-    requires known { agent < length parts.now.paths.items }
-    ensures { (grid : Floor) → IsTrue result ↔ IsOnItsWay (site_at grid points.now homes) (state_in parts.now) agent }
+fn is_on_its_way(points: &Points, homes: bool, floor: &FleetState, agent: usize) -> bool
+    requires begins { (grid : Floor) × IsBeginning (site_at grid points.now homes) floor.now.state }
+    requires known { agent < length floor.now.state.paths }
+    ensures { (grid : Floor) → IsTrue result ↔ IsOnItsWay (site_at grid points.now homes) floor.now.state agent }
 {
-    let path = &parts.paths[agent];
+    let path = &floor.paths()[agent];
     if !is_berth(points, homes, agent, path.end()) {
         return false;
     }
-    match parts.loads[agent].task() {
+    match floor.loads()[agent].task() {
         None => true,
-        Some(n) => leads_on(points, homes, agent, &parts.tasks[n as usize], path),
+        Some(n) => leads_on(points, homes, agent, floor.tasks().task(n), path),
     }
 }
 
 /// The first agent that is not on its way, in a state with which a run may begin: its path does not end where it may come to rest, or
 /// does not lead it through the stops that are left of its task. Each path and each point is looked at, and of the tasks those that
 /// agents have.
-pub fn first_stray(points: &Points, homes: bool, parts: &StateParts) -> Option<u32>
-    requires { (grid : Floor) × IsBeginning (site_at grid points.now homes) (state_in parts.now) }
-    ensures some { IfSome result (λ agent. (grid : Floor) → IsFirstStray (site_at grid points.now homes) (state_in parts.now) agent) }
-    ensures none { IfNone result ((grid : Floor) → AllOnTheirWays (site_at grid points.now homes) (state_in parts.now)) }
+pub fn first_stray(points: &Points, homes: bool, floor: &FleetState) -> Option<u32>
+    requires { (grid : Floor) × IsBeginning (site_at grid points.now homes) floor.now.state }
+    ensures some { IfSome result (λ agent. (grid : Floor) → IsFirstStray (site_at grid points.now homes) floor.now.state agent) }
+    ensures none { IfNone result ((grid : Floor) → AllOnTheirWays (site_at grid points.now homes) floor.now.state) }
 {
     let _agents = points.agents();
-    for agent in 0..parts.paths.len() {
-        if !is_on_its_way(points, homes, parts, agent) {
+    for agent in 0..floor.paths().len() {
+        if !is_on_its_way(points, homes, floor, agent) {
             return Some(agent as u32);
         }
     }

@@ -1,4 +1,4 @@
-use Rattle.std.proofs.Common.{◌≡◌, sym, ap, ◌∙◌, subst}
+use Rattle.std.proofs.Common.{sym, ◌∙◌}
 use Rattle.std.proofs.lemmas.Bool.{false≢true}
 use Rattle.wh_stand.proofs.Passing.{delivers-by, delivers-to}
 use Rattle.wh_stand.proofs.ways.delivers.Goals as goal

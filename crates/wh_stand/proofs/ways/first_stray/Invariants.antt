@@ -1,9 +1,8 @@
 use Rattle.std.proofs.Common.{ℕ, ◌<◌}
 use Rattle.wh_grid.specs.Grids.{Floor}
 use Rattle.wh_core.specs.Laws.{IsOnItsWay}
-use Rattle.wh_state.specs.Columns.{state_in}
 use Rattle.wh_stand.specs.Ways.{site_at}
 use Rattle.wh_stand.proofs.ways.first_stray.Given as goal
 
 abbrev pub invariant-loop-agent : goal.invariant-loop-agent
-invariant-loop-agent l = (grid : Floor) (other : ℕ) → other < l.agent → IsOnItsWay (site_at grid l.points l.homes) (state_in l.parts) other
+invariant-loop-agent l = (grid : Floor) (other : ℕ) → other < l.agent → IsOnItsWay (site_at grid l.points l.homes) l.floor.state other

@@ -1,4 +1,4 @@
-use Rattle.std.proofs.Common.{◌≡◌, refl, sym, ◌∙◌}
+use Rattle.std.proofs.Common.{refl, sym, ◌∙◌}
 use Rattle.std.proofs.lemmas.Bool.{false≢true}
 use Rattle.wh_stand.proofs.Strays.{at_none, at_more, at_all, at_read}
 use Rattle.wh_stand.proofs.ways.has_point.Goals as goal
