@@ -13,12 +13,9 @@ use Rattle.wh_points.specs.declared.points.Point.{Point}
 use Rattle.wh_points.specs.Points.{Layout, IsStation}
 use Rattle.wh_core.specs.Steps.{IsFirstFault, IsUnknownName, IsParkingName, IsStationName}
 use Rattle.wh_core.specs.States.{State}
-use Rattle.wh_core.specs.Steps.{other_ends}
-use Rattle.wh_core.specs.Ordinary.{IsAllowed}
-use Rattle.wh_book.specs.OnTheirWays.{Refuses}
+use Rattle.wh_core.specs.Steps.{Refuses}
 use Rattle.wh_event.specs.declared.event.Event.{Event}
 use Rattle.wh_points.specs.Points.{Site}
-use Rattle.wh_book.specs.Drafts.{MayEnd, MayPark}
 use Rattle.wh_book.specs.Settings.{IsNamed, IsFault, name_at, faulty}
 use Rattle.wh_book.specs.declared.setting.Fault.{Fault}
 
@@ -74,49 +71,3 @@ pub refuses-fault : (site : Site) (s : State) (client : List ℕ) (stops : List 
     Refuses site s (faulty stops fault) (Event.Submit client stops)
 refuses-fault site s client stops (Fault.Unknown k) closed is = (closed, is.1, is.2)
 refuses-fault site s client stops (Fault.Parking k) closed is = (closed, is.1, is.2)
-
--- the cells of the points below a number at which an agent may park
-pub record IsListed (layout : Layout) (s : State) (ends : List Cell) (i : ℕ) (cells : List Cell) : Type 0 where
-  pub sound : (cell : Cell) → Contains cells cell → MayPark layout s ends cell
-  pub all : (k : ℕ) (point : Point) → k < i → get_or layout.points k point ≡ point → MayEnd s ends point.cell → Contains cells point.cell
-
-same-point : (points : List Point) (k i : ℕ) (one other : Point) → i < length points → k ≡ i → one ≡ get_or points i one → get_or points k other ≡ other → one ≡ other
-same-point points k i one other lt e read there = read ∙ get_or_default points i one other lt ∙ ap (λ n. get_or points n other) (sym e) ∙ there
-
-pub listed-more : (layout : Layout) (s : State) (ends : List Cell) (i : ℕ) (cells : List Cell) (point : Point) → i < length layout.points → point ≡ get_or layout.points i point →
-    MayEnd s ends point.cell → IsListed layout s ends i cells → IsListed layout s ends (i + 1) (cells ++ point.cell ∷ [])
-listed-more layout s ends i cells point lt read may is = record {
-  sound = λ cell in_list. elim (Contains-push_cases cells point.cell cell in_list) [
-    | inl old ↦ is.sound cell old
-    | inr e ↦
-        let allowed : MayPark layout s ends point.cell = record { point = (point.name, (point.kind, (i, lt, sym read))); may_end = may } in
-        subst (MayPark layout s ends) e allowed
-  ];
-  all = λ k other less there free. elim (cases_eq k i) [
-    | inl e ↦ subst (λ (p : Point). Contains (cells ++ point.cell ∷ []) p.cell) (same-point layout.points k i point other lt e read there) (Contains-push cells point.cell)
-    | inr ne ↦ Contains-append_left cells (point.cell ∷ []) other.cell (is.all k other (omega arith) there free)
-  ];
-}
-
-pub listed-kept : (layout : Layout) (s : State) (ends : List Cell) (i : ℕ) (cells : List Cell) (point : Point) → i < length layout.points → point ≡ get_or layout.points i point →
-    ¬ MayEnd s ends point.cell → IsListed layout s ends i cells → IsListed layout s ends (i + 1) cells
-listed-kept layout s ends i cells point lt read not is = record {
-  sound = is.sound;
-  all = λ k other less there free. elim (cases_eq k i) [
-    | inl e ↦ absurd (not (subst (λ (p : Point). MayEnd s ends p.cell) (sym (same-point layout.points k i point other lt e read there)) free))
-    | inr ne ↦ is.all k other (omega arith) there free
-  ];
-}
-
-pub listed-end : (layout : Layout) (s : State) (ends : List Cell) (i : ℕ) (cells : List Cell) (cell : Cell) → length layout.points ≤ i → IsListed layout s ends i cells →
-    MayPark layout s ends cell → Contains cells cell
-listed-end layout s ends i cells cell all is may =
-    let there = may.point.1.1 in
-    is.all there.0 _ (let lt = there.1 in omega arith) there.2 may.may_end
-
--- where the ends are those of the others, these are the cells at which the agent may park
-pub park-allowed : (site : Site) (s : State) (agent : ℕ) (cell : Cell) → MayPark site.layout s (other_ends s agent) cell ↔ IsAllowed site s agent cell
-park-allowed site s agent cell = (
-  λ may. record { point = may.point; no_delivery = may.may_end.no_delivery; no_end = may.may_end.no_end },
-  λ allowed. record { point = allowed.point; may_end = record { no_delivery = allowed.no_delivery; no_end = allowed.no_end } },
-)

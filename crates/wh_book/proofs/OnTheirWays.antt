@@ -42,7 +42,7 @@ here site s agent off due = sym (at-resting (path_of s.paths agent) 0 (idle-rest
 pub ends-out_of_the_way : (site : Site) (s : State) (agent : ℕ) → IsDue site s agent → ¬ IsDeliveryCell s (end_of s.paths agent) → IsOutOfTheWay site s agent
 ends-out_of_the_way site s agent due free off at_it = free (subst (λ c. IsDeliveryCell s c) (sym (here site s agent off due)) at_it)
 
-not-wanted : (site : Site) (s : State) (cell : Cell) → IsKept site s → AllOnTheirWays site s → (site.homes ≡ false → ¬ IsDeliveryCell s cell) → ¬ IsWanted site s cell
+pub not-wanted : (site : Site) (s : State) (cell : Cell) → IsKept site s → AllOnTheirWays site s → (site.homes ≡ false → ¬ IsDeliveryCell s cell) → ¬ IsWanted site s cell
 not-wanted site s cell kept on_ways free wanted = elim wanted.1 [
   | inl at_it ↦ free wanted.0 at_it
   | inr awaited ↦ none-halted site s awaited.0 awaited.1 kept on_ways awaited.2

@@ -1,17 +1,17 @@
-use Rattle.std.specs.Prelude.{false, ◌≡◌, ◌≢◌, ℕ, ◌+◌, ◌<◌, ◌≤◌, List, Some, length, slice_get, All, Contains}
-use Rattle.wh_points.specs.Points.{Layout, Site, IsPointCell}
+use Rattle.std.specs.Prelude.{Bool, false, ◌≡◌, ◌≢◌, ℕ, ◌+◌, ◌<◌, ◌≤◌, List, Some, length, slice_get, All}
+use Rattle.wh_points.specs.Points.{Site}
+use Rattle.wh_points.specs.Formed.{IsFormed}
 use Rattle.wh_tasks.specs.declared.task.Task.{Task}
 use Rattle.wh_tasks.specs.declared.task.Load.{Load}
 use Rattle.wh_tasks.specs.Tasks.{IsTask, IsOpen}
 use Rattle.wh_core.specs.States.{State, arrived, submitted, adopted, assigned, moved, reseated, shut, picked, dropped}
-use Rattle.wh_core.specs.Steps.{Step, Run, IsDeliveryCell, most_tasks, last_clock}
-use Rattle.wh_grid.specs.declared.cell.Cell.{Cell}
+use Rattle.wh_core.specs.Steps.{Step, Run, most_tasks, last_clock}
 use Rattle.wh_event.specs.declared.entry.Entry.{Entry}
 use Rattle.wh_event.specs.declared.event.Event.{Event}
 use Rattle.wh_event.specs.declared.reply.Reply.{Reply}
 use Rattle.wh_event.specs.declared.reply.Refusal.{Refusal}
 use Rattle.wh_state.specs.Standings.{Standing}
-use Rattle.wh_core.specs.Laws.{IsBeginningOnTheirWays}
+use Rattle.wh_core.specs.Laws.{IsBeginning, AllOnTheirWays}
 use Rattle.wh_book.specs.declared.draft.Change.{Change}
 use Rattle.wh_book.specs.declared.draft.Draft.{Draft}
 
@@ -50,8 +50,18 @@ pub record Seen : Type 0 where
 
 -- what a book keeps: with the opening state it may begin, and the history is a run from there to the state
 pub record IsKept (site : Site) (opening : State) (history : List Entry) (state : State) : Type 0 where
-  pub begins : IsBeginningOnTheirWays site opening
+  pub begins : IsBeginning site opening
   pub run : Run site opening history state
+
+-- and it knows where nobody is a stray any more
+pub record IsWatched (site : Site) (opening : State) (history : List Entry) (state : State) (strays : Bool) : Type 0 where
+  pub kept : IsKept site opening history state
+  pub ways : strays ≡ false → AllOnTheirWays site state
+
+-- The instance is well-formed, and all were on their ways as the run began: so each due agent has a clear way for what it is to do.
+pub record HasWaysForAll (site : Site) (opening : State) : Type 0 where
+  pub formed : IsFormed site
+  pub on_their_ways : AllOnTheirWays site opening
 
 -- the book tells what it told, except for its room
 pub record IsSame (old new : Seen) : Type 0 where
@@ -76,16 +86,6 @@ pub record Drafts (book : Seen) (caller : ℕ) (event : Event) (draft : Draft) :
   pub caller_is : draft.entry.caller ≡ caller
   pub event_is : draft.entry.event ≡ event
   pub ready : IsReady book draft
-
--- no open task is delivered at the cell, and it is none of these ends
-pub record MayEnd (s : State) (ends : List Cell) (cell : Cell) : Type 0 where
-  pub no_delivery : ¬ IsDeliveryCell s cell
-  pub no_end : ¬ Contains ends cell
-
--- a point where such an end may be
-pub record MayPark (layout : Layout) (s : State) (ends : List Cell) (cell : Cell) : Type 0 where
-  pub point : IsPointCell layout cell
-  pub may_end : MayEnd s ends cell
 
 -- the reply to a tick
 abbrev pub ticked : State → Reply

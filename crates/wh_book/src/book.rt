@@ -1,41 +1,31 @@
 //! The book.
 #![tactic(auto)]
 
-ghost use Rattle.std.specs.Prelude.{◌≡◌, ◌≢◌, ℕ, ◌+◌, ◌-◌, ◌<◌, ◌≤◌, ◌↔◌, List, [], ◌∷◌, ◌++◌, true, false, Some, length, slice_get, IfOk, IfNone, IfSome, OnOk, OnErr, IsTrue, Contains};
-ghost use Rattle.wh_path.specs.Paths.{AllFree, IsWalk, path_of, place_of};
+ghost use Rattle.std.specs.Prelude.{◌≡◌, ◌≢◌, ℕ, ◌+◌, ◌-◌, ◌<◌, ◌≤◌, List, [], ◌∷◌, ◌++◌, true, false, Some, length, slice_get, IfOk, OnOk, OnErr};
+ghost use Rattle.wh_path.specs.Paths.{AllFree, IsWalk, path_of};
 ghost use Rattle.wh_points.specs.Points.{Site};
 ghost use Rattle.wh_tasks.specs.declared.task.Task.{Task as Job};
-ghost use Rattle.wh_tasks.specs.Tasks.{IsTask};
+ghost use Rattle.wh_tasks.specs.Tasks.{stops_left};
 ghost use Rattle.wh_planner.specs.Duties.{IsLawful, Delivers, ParksAt};
 ghost use Rattle.wh_core.specs.States.{State, opened, arrived, moved};
-ghost use Rattle.wh_core.specs.Steps.{Step, Run, IsDue, IsIdleIn, last_clock, tour};
-ghost use Rattle.wh_core.specs.Ordinary.{IsNext, NoneIsNext, IsAllowed};
-ghost use Rattle.wh_core.specs.Laws.{IsOpening, IsBeginningOnTheirWays};
+ghost use Rattle.wh_core.specs.Steps.{Answers, Refuses, Step, Run, IsAllowed, IsDue, IsNext, MakesWay, last_clock, tour};
+ghost use Rattle.wh_core.specs.Laws.{IsOpening, IsBeginning};
 ghost use Rattle.wh_state.specs.Columns.{state_in};
 ghost use Rattle.wh_book.specs.Openings.{opening_of};
 ghost use Rattle.wh_event.specs.declared.event.Event.{Event as Asked};
-ghost use Rattle.wh_grid.specs.declared.cell.Cell.{Cell as Place};
 ghost use Rattle.wh_event.specs.declared.reply.Reply.{Reply as Answer};
 ghost use Rattle.wh_event.specs.declared.reply.Refusal.{Refusal as Reason};
-ghost use Rattle.wh_points.specs.Formed.{IsFormed};
-ghost use Rattle.wh_book.specs.OnTheirWays.{Answers, Refuses, MakesWay, IsOutOfTheWay};
 ghost use Rattle.wh_book.specs.Settings.{IsStop, faulty};
-ghost use Rattle.wh_book.specs.Drafts.{Seen, IsSame, IsReady, Drafts, Changes, CanChange, AllServed, ticked};
+ghost use Rattle.wh_book.specs.Drafts.{Seen, IsSame, IsReady, Drafts, Changes, CanChange, AllServed, HasWaysForAll, ticked};
 
-use crate::choice::{nearest, rests_at_once};
+use crate::asking::has_stray;
 use crate::draft::{Change, Draft};
-use crate::idle::ticks_until_idle;
 use crate::opening::Opening;
-use crate::parking::free_points;
 use crate::setting::{Fault, Setting};
-use crate::tour::tour_of;
-use arrayvec::ArrayVec;
 use std::alloc::{AllocError, Global};
 use std::marker::Model;
 use wh_core::{LAST_CLOCK, MOST_TASKS};
 use wh_event::{Entry, Event, KeptStops, Refusal, Reply, Spare, Stops};
-use wh_field::LazyField;
-use wh_grid::Cell;
 use wh_path::TimedPath;
 use wh_state::{Arrivals, FleetState, StateParts};
 use wh_tasks::{Load, TaskSet};
@@ -43,20 +33,24 @@ use wh_text::Name;
 use wh_timetable::Timetable;
 
 /// The state, the history that led to it, and with what it began.
+///
+/// A run may begin with any sound state. In one after a stop agents may be strays: a stray has a task though it is idle, or comes to
+/// rest where it may not. Each is brought on its way by its own requests; once all are on their ways they stay so.
 #[derive(Drop)]
 pub struct Book {
-    setting: Setting,
+    pub(crate) setting: Setting,
     first: Opening,
-    floor: FleetState,
+    pub(crate) floor: FleetState,
     history: Vec<Entry>,
+    /// Whether strays may be left.
+    pub(crate) strays: bool,
 }
 
 impl Model for Book {
     ghost use Rattle.std.specs.Prelude.{◌-◌, vec_capacity, vec_len};
     ghost use Rattle.wh_book.specs.Openings.{opening_of};
-    ghost use Rattle.wh_grid.specs.declared.cell.Cell.{Cell as Place};
     ghost use Rattle.wh_book.specs.Settings.{IsStop, faulty};
-    ghost use Rattle.wh_book.specs.Drafts.{Seen, IsKept};
+    ghost use Rattle.wh_book.specs.Drafts.{Seen, IsWatched};
 
     ghost Value = { Seen };
 
@@ -69,7 +63,7 @@ impl Model for Book {
       task_room = b.floor.room;
     } };
 
-    ghost invariant = { λ b. IsKept b.setting (opening_of b.setting.layout b.first) b.history.items b.floor.state };
+    ghost invariant = { λ b. IsWatched b.setting (opening_of b.setting.layout b.first) b.history.items b.floor.state b.strays };
 }
 
 impl Book {
@@ -100,12 +94,13 @@ impl Book {
             },
             floor,
             history: Vec::new(alloc),
+            strays: false,
         })
     }
 
     /// The book with no entry that begins with the state of these parts.
     pub fn begin(alloc: Global, setting: Setting, parts: StateParts) -> Result<Book, AllocError>
-        requires { IsBeginningOnTheirWays setting (state_in parts) }
+        requires { IsBeginning setting (state_in parts) }
         ensures site { IfOk result (λ book. book.site ≡ setting) }
         ensures opening { IfOk result (λ book. book.opening ≡ state_in parts) }
         ensures state { IfOk result (λ book. book.state ≡ book.opening) }
@@ -113,29 +108,33 @@ impl Book {
     {
         let _agents = setting.agents();
         let floor = FleetState::of(alloc, setting.grid(), &parts)?;
+        let strays = has_stray(&setting, &floor);
         Ok(Book {
             setting,
             first: Opening::State(parts),
             floor,
             history: Vec::new(alloc),
+            strays,
         })
     }
 
-    /// The book of a history that was told elsewhere, which is a run from the opening to the state. It takes no memory and
-    /// always succeeds.
+    /// The book of a history that was told elsewhere, which is a run from the opening to the state. It looks at each path, takes no
+    /// memory and always succeeds.
     pub fn resume(setting: Setting, first: Opening, floor: FleetState, history: Vec<Entry>) -> Book
-        requires opening { IsBeginningOnTheirWays setting (opening_of setting.layout first) }
+        requires opening { IsBeginning setting (opening_of setting.layout first) }
         requires run { Run setting (opening_of setting.layout first) history.items floor.state }
         ensures site { result.site ≡ setting }
         ensures opening { result.opening ≡ opening_of setting.layout first }
         ensures state { result.state ≡ floor.state }
         ensures history { result.history ≡ history.items }
     {
+        let strays = has_stray(&setting, &floor);
         Book {
             setting,
             first,
             floor,
             history,
+            strays,
         }
     }
 
@@ -149,11 +148,11 @@ impl Book {
     /// All entries so far: a run from the opening state to the state.
     pub fn history(&self) -> &[Entry]
         ensures value { result.now ≡ self.now.history }
-        ensures opening { IsBeginningOnTheirWays self.now.site self.now.opening }
+        ensures opening { IsBeginning self.now.site self.now.opening }
         // Where the agents stood at their starts, that is an opening.
         ensures opened { (clock : ℕ) (slots : List ℕ) → self.now.opening ≡ opened self.now.site.layout clock slots → IsOpening self.now.site self.now.opening }
         ensures run { Run self.now.site self.now.opening self.now.history self.now.state }
-        ensures served { IsFormed self.now.site → AllServed self.now.history }
+        ensures served { HasWaysForAll self.now.site self.now.opening → AllServed self.now.history }
     {
         self.history.as_slice()
     }
@@ -264,11 +263,14 @@ impl Book {
         ensures history { self.new.history ≡ self.old.history ++ draft.entry ∷ [] }
         ensures step { Step self.old.site self.old.state draft.entry self.new.state }
         ensures seats { length self.new.state.paths ≡ length self.old.state.paths }
-        ensures served { IsFormed self.old.site → draft.entry.reply ≢ Answer.Refused Reason.NoPath }
+        ensures served { HasWaysForAll self.old.site self.old.opening → draft.entry.reply ≢ Answer.Refused Reason.NoPath }
     {
         let Draft { entry, change } = draft;
         apply(&mut self.floor, change);
         self.history.push_reserved(entry);
+        if self.strays {
+            self.strays = has_stray(&self.setting, &self.floor);
+        }
     }
 
     /// Adds the entry of an event whose answer changes nothing. It takes no memory and always succeeds.
@@ -310,6 +312,9 @@ impl Book {
             },
         };
         self.history.push_reserved(told);
+        if self.strays {
+            self.strays = has_stray(&self.setting, &self.floor);
+        }
     }
 
     /// Answers the event, and changes nothing.
@@ -450,7 +455,7 @@ impl Book {
         }
     }
 
-    /// The agent takes the task by the path. The book stays as it is, and has room for the path.
+    /// The agent takes the task by the path, or goes on with its own. The book stays as it is, and has room for the path.
     pub fn draft_took(
         &mut self,
         alloc: Global,
@@ -461,7 +466,7 @@ impl Book {
     ) -> Result<Draft, AllocError>
         requires due { IsDue self.old.site self.old.state agent }
         requires lawful { (job : Job) × IsNext self.old.site self.old.state agent task job
-            × IsLawful self.old.site.grid self.old.site.layout.nofollow self.old.state.paths agent (length (tour self.old.site agent job.stops)) (Delivers (tour self.old.site agent job.stops)) path }
+            × IsLawful self.old.site.grid self.old.site.layout.nofollow self.old.state.paths agent (length (tour self.old.site agent job.stops)) (Delivers (tour self.old.site agent (stops_left job))) path }
         requires room { 1 ≤ self.old.entry_room }
         ensures book { self.new ≡ self.old }
         ensures drafts { IfOk result (Drafts self.old caller (Asked.Request agent)) }
@@ -475,10 +480,12 @@ impl Book {
                 path: path.copy(alloc)?,
             },
         };
-        Ok(Draft {
-            entry,
-            change: Change::Take { agent, task, path },
-        })
+        let change = if self.floor.is_idle(agent) {
+            Change::Take { agent, task, path }
+        } else {
+            Change::Park { agent, path }
+        };
+        Ok(Draft { entry, change })
     }
 
     /// The agent makes way by the path. The book stays as it is, and has room for the path.
@@ -510,60 +517,6 @@ impl Book {
             entry,
             change: Change::Park { agent, path },
         })
-    }
-
-    /// The task that the agent takes. It takes no memory.
-    pub fn next(&self, agent: u32, near: &mut LazyField) -> Option<u32>
-        requires known { agent < length self.now.state.paths }
-        requires over { near.old.grid ≡ self.now.site.grid }
-        ensures grid { near.new.grid ≡ near.old.grid }
-        ensures source { near.new.cell ≡ place_of self.now.state.paths agent }
-        ensures none { IfNone result (NoneIsNext self.now.state agent) }
-        ensures nearest { IfSome result (λ n. (task : Job) × IsNext self.now.site self.now.state agent n task) }
-    {
-        nearest(&self.floor, agent, near)
-    }
-
-    /// Where the agent goes for the task: through its stops, and then home if paths go on home. It takes no memory.
-    pub fn tour(&self, agent: u32, task: u32) -> ArrayVec<Cell, 9>
-        requires known { agent < length self.now.state.paths }
-        requires task { task < length self.now.state.tasks }
-        ensures value { (job : Job) × IsTask self.now.state.tasks task job × (result.items ≡ tour self.now.site agent job.stops) }
-        ensures two { 2 ≤ length result.items }
-        ensures nine { length result.items ≤ 9 }
-    {
-        let home = self.setting.home(agent);
-        let stops = self.floor.tasks().task(task).stops.as_slice();
-        tour_of(self.setting.homes(), home, stops)
-    }
-
-    /// In how many ticks the agent is due, if nothing else happens: it has no steps left then; or, where paths go on home, no
-    /// task. Where paths end at the last stop it takes constant time.
-    #[inline(always)]
-    pub fn ticks_until_idle(&self, agent: u32) -> u64
-        requires { agent < length self.now.state.paths }
-        ensures { IsIdleIn self.now.site self.now.state agent result }
-    {
-        ticks_until_idle(self.setting.homes(), &self.floor, agent)
-    }
-
-    /// Whether it is known at once that a due agent has nothing to do and is in nobody's way. It takes constant time.
-    #[inline(always)]
-    pub fn rests_at_once(&self, agent: u32) -> bool
-        requires { IsDue self.now.site self.now.state agent }
-        ensures none { IsTrue result → NoneIsNext self.now.state agent }
-        ensures out_of_the_way { IsTrue result → IsOutOfTheWay self.now.site self.now.state agent }
-    {
-        rests_at_once(&self.floor, agent)
-    }
-
-    /// The cells at which the agent may park.
-    pub fn allowed(&self, alloc: Global, agent: u32) -> Result<Vec<Cell>, AllocError>
-        requires { agent < length self.now.state.paths }
-        ensures { IfOk result (λ cells. (cell : Place) → Contains cells.items cell ↔ IsAllowed self.now.site self.now.state agent cell) }
-    {
-        let cells = free_points(alloc, self.setting.points(), &self.floor, agent)?;
-        Ok(cells)
     }
 }
 

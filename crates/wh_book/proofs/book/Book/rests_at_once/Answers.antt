@@ -1,20 +1,24 @@
-use Rattle.std.proofs.Common.{◌≡◌, ap, subst}
+use Rattle.std.proofs.Common.{subst, sym}
 use Rattle.wh_path.specs.Paths.{end_of}
-use Rattle.wh_core.specs.States.{State}
-use Rattle.wh_core.specs.Steps.{IsDeliveryCell}
-use Rattle.wh_core.specs.Ordinary.{NoneIsNext}
+use Rattle.wh_core.specs.Steps.{IsDue, IsRestCell, NoneIsNext}
 use Rattle.wh_book.specs.Drafts.{Seen}
-use Rattle.wh_book.proofs.OnTheirWays.{ends-out_of_the_way}
+use Rattle.wh_book.proofs.Askers.{none-at_once, rests-at_once}
+use Rattle.wh_book.proofs.Kept.{kept-begins}
 use Rattle.wh_book.proofs.book.Book.rests_at_once.Goals as goal
 
 pub returns-clause-none : goal.returns-clause-none
 returns-clause-none c rests =
-    let same : c.self.inside.floor.state ≡ c.args.self.now.state = ap (λ (b : Seen). b.state) c.self.view_is in
-    subst (λ (s : State). NoneIsNext s c.args.agent) same (c.rests_at_once.ensures.none rests)
+    let agent = c.args.agent in
+    let due = subst (λ (b : Seen). IsDue b.site b.state agent) (sym c.self.view_is) c.requires in
+    let begins = kept-begins _ _ _ _ c.self.invariant.kept in
+    subst (λ (b : Seen). NoneIsNext b.state agent) c.self.view_is (none-at_once c.self.inside.setting c.self.inside.floor.state agent begins.sound
+    (c.self.invariant.ways (c.rests_at_once.ensures.no_strays rests)) due (c.rests_at_once.ensures.none rests))
 
-pub returns-clause-out_of_the_way : goal.returns-clause-out_of_the_way
-returns-clause-out_of_the_way c rests =
-    let book = c.args.self.now in
-    let same : c.self.inside.floor.state ≡ book.state = ap (λ (b : Seen). b.state) c.self.view_is in
-    ends-out_of_the_way book.site book.state c.args.agent c.requires
-    (subst (λ (s : State). ¬ IsDeliveryCell s (end_of s.paths c.args.agent)) same (c.rests_at_once.ensures.out_of_the_way rests))
+pub returns-clause-rest_cell : goal.returns-clause-rest_cell
+returns-clause-rest_cell c rests =
+    let agent = c.args.agent in
+    let due = subst (λ (b : Seen). IsDue b.site b.state agent) (sym c.self.view_is) c.requires in
+    let begins = kept-begins _ _ _ _ c.self.invariant.kept in
+    subst (λ (b : Seen). IsRestCell b.site b.state agent (end_of b.state.paths agent)) c.self.view_is
+    (rests-at_once c.self.inside.setting c.self.inside.floor.state agent begins.sound
+    (c.self.invariant.ways (c.rests_at_once.ensures.no_strays rests)) due (c.rests_at_once.ensures.out_of_the_way rests))
