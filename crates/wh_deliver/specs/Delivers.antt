@@ -2,15 +2,15 @@
 use Rattle.std.specs.Prelude.{◌≡◌, ◌⊎◌, ◌+◌, ◌*◌, ◌<◌, ◌≤◌, ℕ, Bool, true, false, List, [], ◌∷◌, length, drop, Option}
 use Rattle.std.specs.Io.KnownBytes.{Appends}
 use Rattle.wh_lines.specs.Output.{WritesFront}
-use Rattle.wh_points.specs.Formed.{IsFormed}
 use Rattle.wh_tasks.specs.declared.task.Task.{Task}
 use Rattle.wh_tasks.specs.declared.task.Phase.{Phase}
 use Rattle.wh_tasks.specs.Tasks.{IsTask, IsOpen, phase}
 use Rattle.wh_core.specs.States.{State}
 use Rattle.wh_core.specs.Steps.{last_clock}
+use Rattle.wh_core.specs.Laws.{AllOnTheirWays}
 use Rattle.wh_event.specs.declared.entry.Entry.{Entry}
 use Rattle.wh_log.specs.Told.{Answered, told_text}
-use Rattle.wh_book.specs.Drafts.{Seen}
+use Rattle.wh_book.specs.Drafts.{Seen, HasWaysForAll}
 use Rattle.wh_session.specs.Machines.{Records}
 use Rattle.wh_replay.specs.declared.asker.Asker.{Asker}
 use Rattle.wh_replay.specs.Answers.{clock_after, text_of}
@@ -30,7 +30,7 @@ pub record Does (caller : ℕ) (old : Seen) (added : List Entry) (new : Seen) : 
   pub goes : GoesOn caller old added new
   pub over : IsOver old.state → added ≡ []
 
--- All stands still, after so many ticks. Where paths go on home to parkings, or each task has its stops at two cells at most, all are done;
+-- All stands still, after so many ticks. Where all were on their ways as the run began: where paths go on home to parkings, or each task has its stops at two cells at most, all are done;
 -- where paths end at the last stop each task is done, or two agents hold it. On a well-formed instance it takes no more ticks than rounds
 -- were left to do; where paths end at the last stop, at most two spans for each agent and each open task, and the steps that were left of the
 -- paths with which the run began.
@@ -38,25 +38,25 @@ pub record IsDelivered (old new : Seen) : Type 0 where
   pub ticks : ℕ
   pub clock : new.state.clock ≡ old.state.clock + ticks
   pub still : StandsStill new.site new.state
-  pub held : old.site.homes ≡ false → 0 < length old.site.layout.agents → (n : ℕ) (task : Task) → IsTask new.state.tasks n task
+  pub held : AllOnTheirWays old.site old.opening → old.site.homes ≡ false → 0 < length old.site.layout.agents → (n : ℕ) (task : Task) → IsTask new.state.tasks n task
       → (phase task ≡ Phase.Done) ⊎ (IsOpen task × IsHeld new.state task)
-  pub all_done : 0 < length old.site.layout.agents → NoneCanStand old.site old.state → AllDone new.state
-  pub done : old.site.homes ≡ false → 0 < length old.site.layout.agents → AreOfTwoPlaces old.state → AllDone new.state
-  pub within : (stops : ℕ) → IsFormed old.site → HaveAtMost stops old.state → ticks ≤ left_to_do old.site stops old.state
-  pub bounded : old.site.homes ≡ false → (stops : ℕ) → IsFormed old.site → HaveAtMost stops old.state
+  pub all_done : AllOnTheirWays old.site old.opening → 0 < length old.site.layout.agents → NoneCanStand old.site old.state → AllDone new.state
+  pub done : AllOnTheirWays old.site old.opening → old.site.homes ≡ false → 0 < length old.site.layout.agents → AreOfTwoPlaces old.state → AllDone new.state
+  pub within : (stops : ℕ) → HasWaysForAll old.site old.opening → HaveAtMost stops old.state → ticks ≤ left_to_do old.site stops old.state
+  pub bounded : old.site.homes ≡ false → (stops : ℕ) → HasWaysForAll old.site old.opening → HaveAtMost stops old.state
       → ticks ≤ 2 * span old.site stops * (length old.site.layout.agents + open_tasks old.state) + first_paths_left old.opening old.state
 
 -- The clock came to its last. On a well-formed instance it had no more ticks left than that bound.
 pub record IsLate (old new : Seen) : Type 0 where
   pub last : new.state.clock ≡ last_clock
-  pub within : (stops : ℕ) → IsFormed old.site → HaveAtMost stops old.state → last_clock ≤ old.state.clock + left_to_do old.site stops old.state
-  pub late : old.site.homes ≡ false → (stops : ℕ) → IsFormed old.site → HaveAtMost stops old.state
+  pub within : (stops : ℕ) → HasWaysForAll old.site old.opening → HaveAtMost stops old.state → last_clock ≤ old.state.clock + left_to_do old.site stops old.state
+  pub late : old.site.homes ≡ false → (stops : ℕ) → HasWaysForAll old.site old.opening → HaveAtMost stops old.state
       → last_clock ≤ old.state.clock + 2 * span old.site stops * (length old.site.layout.agents + open_tasks old.state) + first_paths_left old.opening old.state
 
 -- All stand, and what is left to do finds no path: so on no well-formed instance.
 pub record EndsStuck (old new : Seen) : Type 0 where
   pub stuck : IsStuck new.site new.state
-  pub unformed : ¬ IsFormed old.site
+  pub unformed : ¬ HasWaysForAll old.site old.opening
 
 -- all stands still, or it is closed, or out of time, or stuck
 abbrev pub ComesToRest : (old new : Seen) → Type 0

@@ -8,21 +8,20 @@ use Rattle.std.proofs.lemmas.Option.{none-some, same_Some, slice_get_within, sli
 use Rattle.std.proofs.lemmas.List.{length-set, length-replicate}
 use Rattle.std.proofs.lemmas.List.Elements.{All-nil, All-cons, All-head, All-tail, All-append}
 use Rattle.wh_points.specs.Points.{Site}
-use Rattle.wh_points.specs.Formed.{IsFormed}
 use Rattle.wh_field.proofs.Tables.{Contains-none, Contains-cases, Contains-first, Contains-later}
 use Rattle.wh_path.specs.Paths.{steps_left}
 use Rattle.wh_core.specs.States.{State}
 use Rattle.wh_core.specs.Steps.{Answers, Step, Run, IsDue}
-use Rattle.wh_core.specs.Laws.{IsReachedOnTheirWays}
+use Rattle.wh_core.specs.Laws.{IsReached, IsReachedOnTheirWays, AllOnTheirWays}
 use Rattle.wh_core.proofs.StepKinds.{run-join}
-use Rattle.wh_core.proofs.Sound.{begun-reached}
 use Rattle.wh_event.specs.declared.event.Event.{Event}
 use Rattle.wh_event.specs.declared.reply.Refusal.{Refusal}
 use Rattle.wh_event.specs.declared.reply.Reply.{Reply}
 use Rattle.wh_event.specs.declared.entry.Entry.{Entry}
-use Rattle.wh_book.specs.Drafts.{Seen, IsKept}
+use Rattle.wh_book.specs.Drafts.{Seen, IsKept, HasWaysForAll}
 use Rattle.wh_token.specs.Asking.{MayBeAsked, AllWouldRest, IsNextToAsk}
 use Rattle.wh_core.proofs.Lists.{slice_get-set_other, slice_get-set_same}
+use Rattle.wh_token.specs.Houses.{StaysAt}
 use Rattle.wh_token.proofs.Takers.{next-none}
 use Rattle.wh_progress.specs.Progress.{FindPaths, HasAsked, MayRest, StandsStill}
 use Rattle.wh_progress.proofs.Having.{asked}
@@ -37,8 +36,13 @@ goes-none caller book = record {
   history = sym (append-nil book.history);
   run = refl;
   only = All-nil (IsOf caller);
-  served = λ formed. All-nil (λ entry. entry.reply ≢ Reply.Refused Refusal.NoPath);
+  served = λ ways. All-nil (λ entry. entry.reply ≢ Reply.Refused Refusal.NoPath);
 }
+
+-- who had ways as it began has them as it goes on
+pub ways-stay : (old new : Seen) → StaysAt old new → HasWaysForAll old.site old.opening → HasWaysForAll new.site new.opening
+ways-stay old new stays ways =
+    subst (λ o. HasWaysForAll new.site o) (sym stays.opening) (subst (λ s. HasWaysForAll s old.opening) (sym stays.site) ways)
 
 pub goes-trans : (caller : ℕ) (a b c : Seen) (xs ys : List Entry) → GoesOn caller a xs b → GoesOn caller b ys c → GoesOn caller a (xs ++ ys) c
 goes-trans caller a b c xs ys h k = record {
@@ -46,8 +50,8 @@ goes-trans caller a b c xs ys h k = record {
   history = k.history ∙ ap (λ l. l ++ ys) h.history ∙ append_assoc a.history xs ys;
   run = run-join a.site a.state xs b.state ys c.state h.run (subst (λ s. Run s b.state ys c.state) h.stays.site k.run);
   only = All-append (IsOf caller) xs ys h.only k.only;
-  served = λ formed. All-append (λ entry. entry.reply ≢ Reply.Refused Refusal.NoPath) xs ys (h.served formed)
-      (k.served (subst (λ s. IsFormed s) (sym h.stays.site) formed));
+  served = λ ways. All-append (λ entry. entry.reply ≢ Reply.Refused Refusal.NoPath) xs ys (h.served ways)
+      (k.served (ways-stay a b h.stays ways));
 }
 
 pub one-step : (site : Site) (s new : State) (entry : Entry) → Run site s (entry ∷ []) new → Step site s entry new
@@ -290,10 +294,10 @@ found agent [] has all finds = Contains-none (Event.Request agent) has
 found agent (x ∷ xs) has all finds = All-head (λ entry. entry.reply ≢ no_path) x xs finds (All-head (λ entry. entry.reply ≡ no_path) x xs all)
 
 pub vain-unformed : (caller : ℕ) (old new : Seen) (some : Bool) (added : List Entry) → some ≡ true → AllHaveAsked old.site old.state some added new.state →
-    AreInVain old.site old.state added new.state → GoesOn caller old added new → ¬ IsFormed old.site
-vain-unformed caller old new some added one all vain goes formed =
+    AreInVain old.site old.state added new.state → GoesOn caller old added new → ¬ HasWaysForAll old.site old.opening
+vain-unformed caller old new some added one all vain goes ways =
     let who = all.1.who one in
-    found who.0 added who.1 vain.all (goes.served formed)
+    found who.0 added who.1 vain.all (goes.served ways)
 
 rests-of : (site : Site) (s new : State) (agent : ℕ) → Answers site s Reply.Rested (Event.Request agent) new → MayRest site s agent
 rests-of site s new agent step = record { none = step.1; stays = step.2 }
@@ -332,7 +336,21 @@ IsBegun book = IsKept book.site book.opening book.history book.state
 
 -- and so are all entries
 pub reached : (caller : ℕ) (book now : Seen) (added : List Entry) → IsBegun book → GoesOn caller book added now →
+    IsReached book.site (book.history ++ added) now.state
+reached caller book now added kept goes = record {
+  opening = book.opening;
+  is_beginning = kept.begins;
+  run = run-join book.site book.opening book.history book.state added now.state kept.run goes.run;
+}
+
+-- from where all were on their ways, if they were
+pub reached-ways : (caller : ℕ) (book now : Seen) (added : List Entry) → IsBegun book → GoesOn caller book added now → AllOnTheirWays book.site book.opening →
     IsReachedOnTheirWays book.site (book.history ++ added) now.state
-reached caller book now added kept goes =
-    begun-reached book.site book.opening (book.history ++ added) now.state kept.begins
-    (run-join book.site book.opening book.history book.state added now.state kept.run goes.run)
+reached-ways caller book now added kept goes ways = record {
+  reached = record {
+    opening = book.opening;
+    is_beginning = kept.begins;
+    run = run-join book.site book.opening book.history book.state added now.state kept.run goes.run;
+  };
+  on_their_ways = ways;
+}

@@ -4,12 +4,12 @@ use Prim.Native.Nat.{zero, suc}
 use Rattle.std.proofs.lemmas.Bool.{false≢true, cases_eq, cases_lt, cases_Bool}
 use Rattle.std.proofs.lemmas.List.Elements.{All-nil, All-cons, All-append}
 use Rattle.wh_points.specs.Points.{Site}
-use Rattle.wh_points.specs.Formed.{IsFormed}
 use Rattle.wh_tasks.specs.declared.task.Task.{Task}
 use Rattle.wh_tasks.specs.declared.task.Phase.{Phase}
 use Rattle.wh_tasks.specs.Tasks.{IsTask, IsOpen, phase}
 use Rattle.wh_core.specs.States.{State}
 use Rattle.wh_core.specs.Steps.{Answers, Run, IsDue, last_clock}
+use Rattle.wh_core.specs.Laws.{AllOnTheirWays, IsBeginningOnTheirWays}
 use Rattle.wh_core.proofs.StepKinds.{run-join}
 use Rattle.wh_core.proofs.Later.{AllLater, later-run}
 use Rattle.wh_core.proofs.Idle.{decide-idle}
@@ -18,7 +18,7 @@ use Rattle.wh_event.specs.declared.event.Event.{Event}
 use Rattle.wh_event.specs.declared.reply.Refusal.{Refusal}
 use Rattle.wh_event.specs.declared.reply.Reply.{Reply}
 use Rattle.wh_event.specs.declared.entry.Entry.{Entry}
-use Rattle.wh_book.specs.Drafts.{Seen}
+use Rattle.wh_book.specs.Drafts.{Seen, HasWaysForAll}
 use Rattle.wh_progress.specs.Progress.{HaveAtMost, HasAsked, FindPaths, IsRound, StandsStill, IsHeld, AllDone, span, open_tasks, left_to_do, first_paths_left}
 use Rattle.wh_progress.specs.Laws.{NoneCanStand}
 use Rattle.wh_progress.proofs.Due.{due_until_asked}
@@ -28,7 +28,7 @@ use Rattle.wh_progress.proofs.Delivered.{each_round_brings, left_is_bounded}
 use Rattle.wh_delivery.specs.Turns.{IsRoundSoFar, RunInTurn, since_all}
 use Rattle.wh_delivery.specs.Deliveries.{GoesOn, IsOneLater, IsOneTick, Begins, IsDelivering}
 use Rattle.wh_delivery.proofs.Turns.{round-behind, tick-behind}
-use Rattle.wh_delivery.proofs.Going.{IsBegun, goes-none, goes-trans, one-step, asked-left, asked-last, reached}
+use Rattle.wh_delivery.proofs.Going.{IsBegun, goes-none, goes-trans, one-step, asked-left, asked-last, reached, reached-ways, ways-stay}
 
 pub delivering-none : (caller : ℕ) (book : Seen) → IsDelivering caller book 0 book
 delivering-none caller book = record {
@@ -38,7 +38,7 @@ delivering-none caller book = record {
   begins = refl;
   clock = omega arith;
   tasks = refl;
-  falls = λ stops formed few. omega arith;
+  falls = λ stops ways few. omega arith;
 }
 
 few-now : (caller : ℕ) (old now : Seen) (stops ticks : ℕ) → IsDelivering caller old ticks now → HaveAtMost stops old.state → HaveAtMost stops now.state
@@ -172,14 +172,14 @@ delivering-more caller old now mid new ticks asks last kept d first round asked 
       begins = in_turn.1;
       clock = omega arith;
       tasks = tasks ∙ d.tasks;
-      falls = λ stops formed few.
+      falls = λ stops ways few.
           let round = as-round old.site now.state mid.state new.state false asks last begins run_first run_second later.was_open (omega arith) later.not_closed
-          (first.served (subst (λ s. IsFormed s) (sym here) formed)) (second.served (subst (λ s. IsFormed s) (sym there) formed)) in
+          (first.served (ways-stay old now d.goes.stays ways)) (second.served (ways-stay now mid first.stays (ways-stay old now d.goes.stays ways))) in
           let now_few = few-now caller old now stops ticks d few in
           let new_few = few-after stops now.state new.state (later-run old.site now.state round.0 new.state round.1.run) tasks now_few in
-          let at = reached caller old now d.added kept d.goes in
+          let at = reached-ways caller old now d.added kept d.goes ways.on_their_ways in
           let none : length new.state.tasks ≡ length now.state.tasks + 0 = omega arith in
-          let falls_before = d.falls stops formed few in
+          let falls_before = d.falls stops ways few in
           elim (each_round_brings old.site stops (old.history ++ d.added) round.0 now.state new.state 0 at round.1 round.2 new_few none) [
             | inr still ↦ absurd (begins.moves refl still)
             | inl less ↦ omega arith
@@ -230,56 +230,57 @@ none-stand site old now later few none = elim none [
 ]
 
 pub delivered : (caller : ℕ) (old now new : Seen) (ticks : ℕ) (asks : List Entry) → IsBegun old → IsDelivering caller old ticks now → GoesOn caller now asks new →
-    Begins now.site now.state true asks new.state → 0 < length old.site.layout.agents → NoneCanStand old.site old.state → AllDone new.state
-delivered caller old now new ticks asks kept d goes asked some none =
+    Begins now.site now.state true asks new.state → AllOnTheirWays old.site old.opening → 0 < length old.site.layout.agents → NoneCanStand old.site old.state → AllDone new.state
+delivered caller old now new ticks asks kept d goes asked ways some none =
     let whole = goes-trans caller old now new d.added asks d.goes goes in
-    let at = reached caller old new (d.added ++ asks) kept whole in
+    let at = reached-ways caller old new (d.added ++ asks) kept whole ways in
     let now_none = none-stand old.site old.state now.state (later-run old.site old.state d.added now.state d.goes.run) d.tasks none in
     let none_there : NoneCanStand old.site new.state = subst (λ s. NoneCanStand old.site s) (sym (asked.stands refl).0) now_none in
     still_is_done old.site (old.history ++ (d.added ++ asks)) new.state some at none_there (stands-there caller old now new ticks asks d goes asked)
 
 -- no more ticks than rounds were left to do
-pub within : (caller : ℕ) (old now : Seen) (ticks : ℕ) → IsDelivering caller old ticks now → (stops : ℕ) → IsFormed old.site → HaveAtMost stops old.state →
+pub within : (caller : ℕ) (old now : Seen) (ticks : ℕ) → IsDelivering caller old ticks now → (stops : ℕ) → HasWaysForAll old.site old.opening → HaveAtMost stops old.state →
     ticks ≤ left_to_do old.site stops old.state
-within caller old now ticks d stops formed few = (let falls = d.falls stops formed few in omega arith)
+within caller old now ticks d stops ways few = (let falls = d.falls stops ways few in omega arith)
 
 pub bounded : (caller : ℕ) (old now : Seen) (ticks : ℕ) → IsBegun old →
-    IsDelivering caller old ticks now → old.site.homes ≡ false → (stops : ℕ) → IsFormed old.site → HaveAtMost stops old.state →
+    IsDelivering caller old ticks now → old.site.homes ≡ false → (stops : ℕ) → HasWaysForAll old.site old.opening → HaveAtMost stops old.state →
     ticks ≤ 2 * span old.site stops * (length old.site.layout.agents + open_tasks old.state) + first_paths_left old.opening old.state
-bounded caller old now ticks kept d off stops formed few =
-    let bound = left_is_bounded old.site stops old.opening old.history old.state off kept.begins kept.run few in
-    let falls = d.falls stops formed few in
+bounded caller old now ticks kept d off stops ways few =
+    let begins : IsBeginningOnTheirWays old.site old.opening = record { beginning = kept.begins; on_their_ways = ways.on_their_ways } in
+    let bound = left_is_bounded old.site stops old.opening old.history old.state off begins kept.run few in
+    let falls = d.falls stops ways few in
     omega arith
 
 -- no more ticks than the clock has
 pub full : (caller : ℕ) (old now : Seen) → IsBegun old → IsDelivering caller old last_clock now → now.state.clock ≡ last_clock
 full caller old now kept d =
     let at = reached caller old now d.added kept d.goes in
-    let limit = (sound-reached old.site (old.history ++ d.added) now.state at.reached).clock_fits in
+    let limit = (sound-reached old.site (old.history ++ d.added) now.state at).clock_fits in
     let clock = d.clock in
     omega arith
 
 pub held : (caller : ℕ) (old now new : Seen) (ticks : ℕ) (asks : List Entry) → IsBegun old → IsDelivering caller old ticks now → GoesOn caller now asks new →
-    Begins now.site now.state true asks new.state → old.site.homes ≡ false → 0 < length old.site.layout.agents →
+    Begins now.site now.state true asks new.state → AllOnTheirWays old.site old.opening → old.site.homes ≡ false → 0 < length old.site.layout.agents →
     (n : ℕ) (task : Task) → IsTask new.state.tasks n task → (phase task ≡ Phase.Done) ⊎ (IsOpen task × IsHeld new.state task)
-held caller old now new ticks asks kept d goes asked off some n task there =
+held caller old now new ticks asks kept d goes asked ways off some n task there =
     let whole = goes-trans caller old now new d.added asks d.goes goes in
-    let at = reached caller old new (d.added ++ asks) kept whole in
+    let at = reached-ways caller old new (d.added ++ asks) kept whole ways in
     only_held old.site (old.history ++ (d.added ++ asks)) new.state n task off some at (stands-there caller old now new ticks asks d goes asked) there
 
 -- the clock is at its last only where it had not enough left
 pub late-within : (caller : ℕ) (old now : Seen) (mid : State) (ticks : ℕ) → IsDelivering caller old ticks now → mid.clock ≡ now.state.clock → mid.clock ≡ last_clock →
-    (stops : ℕ) → IsFormed old.site → HaveAtMost stops old.state → last_clock ≤ old.state.clock + left_to_do old.site stops old.state
-late-within caller old now mid ticks d same last stops formed few =
-    let bound = within caller old now ticks d stops formed few in
+    (stops : ℕ) → HasWaysForAll old.site old.opening → HaveAtMost stops old.state → last_clock ≤ old.state.clock + left_to_do old.site stops old.state
+late-within caller old now mid ticks d same last stops ways few =
+    let bound = within caller old now ticks d stops ways few in
     let clock = d.clock in
     omega arith
 
 pub late : (caller : ℕ) (old now : Seen) (mid : State) (ticks : ℕ) → IsBegun old →
     IsDelivering caller old ticks now → mid.clock ≡ now.state.clock → mid.clock ≡ last_clock → old.site.homes ≡ false →
-    (stops : ℕ) → IsFormed old.site → HaveAtMost stops old.state →
+    (stops : ℕ) → HasWaysForAll old.site old.opening → HaveAtMost stops old.state →
     last_clock ≤ old.state.clock + 2 * span old.site stops * (length old.site.layout.agents + open_tasks old.state) + first_paths_left old.opening old.state
-late caller old now mid ticks kept d same last off stops formed few =
-    let bound = bounded caller old now ticks kept d off stops formed few in
+late caller old now mid ticks kept d same last off stops ways few =
+    let bound = bounded caller old now ticks kept d off stops ways few in
     let clock = d.clock in
     omega arith

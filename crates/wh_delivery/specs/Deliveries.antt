@@ -2,13 +2,12 @@
 use Rattle.std.specs.Prelude.{◌≡◌, ℕ, ◌+◌, ◌<◌, ◌≤◌, ◌⊎◌, List, [], ◌∷◌, ◌++◌, Bool, true, false, Some, length, slice_get, All}
 use Rattle.wh_points.specs.Points.{Site}
 use Rattle.wh_path.specs.Paths.{steps_left}
-use Rattle.wh_points.specs.Formed.{IsFormed}
 use Rattle.wh_core.specs.States.{State}
 use Rattle.wh_core.specs.Steps.{Answers, Run, IsDue, last_clock}
 use Rattle.wh_event.specs.declared.event.Event.{Event}
 use Rattle.wh_event.specs.declared.reply.Reply.{Reply}
 use Rattle.wh_event.specs.declared.entry.Entry.{Entry}
-use Rattle.wh_book.specs.Drafts.{Seen}
+use Rattle.wh_book.specs.Drafts.{Seen, HasWaysForAll}
 use Rattle.wh_token.specs.Houses.{StaysAt}
 use Rattle.wh_token.specs.Asking.{MayBeAsked, AllWouldRest}
 use Rattle.wh_progress.specs.Progress.{HaveAtMost, HasAsked, FindPaths, StandsStill, left_to_do}
@@ -27,13 +26,13 @@ pub record IsOf (caller : ℕ) (entry : Entry) : Type 0 where
   pub event_is : AsksOrTicks entry.event
 
 -- The book has gone on by these entries, of requests and ticks of the caller: its history by them, and its state by a run of them. On a
--- well-formed instance no request among them was refused for lack of a path.
+-- well-formed instance where all were on their ways as it began, no request among them was refused for lack of a path.
 pub record GoesOn (caller : ℕ) (old : Seen) (added : List Entry) (new : Seen) : Type 0 where
   pub stays : StaysAt old new
   pub history : new.history ≡ old.history ++ added
   pub run : Run old.site old.state added new.state
   pub only : All (IsOf caller) added
-  pub served : IsFormed old.site → FindPaths added
+  pub served : HasWaysForAll old.site old.opening → FindPaths added
 
 -- neither closed nor ticked, and no task added
 pub record IsOnTime (old new : State) : Type 0 where
@@ -90,7 +89,7 @@ pub record IsDelivering (caller : ℕ) (old : Seen) (ticks : ℕ) (now : Seen) :
   pub begins : since_all [] added ≡ []
   pub clock : now.state.clock ≡ old.state.clock + ticks
   pub tasks : length now.state.tasks ≡ length old.state.tasks
-  pub falls : (stops : ℕ) → IsFormed old.site → HaveAtMost stops old.state →
+  pub falls : (stops : ℕ) → HasWaysForAll old.site old.opening → HaveAtMost stops old.state →
       ticks + left_to_do old.site stops now.state ≤ left_to_do old.site stops old.state
 
 -- nothing but a tick

@@ -2,11 +2,12 @@
 
 ghost use Rattle.std.specs.Prelude.{◌≡◌, ◌≢◌, ℕ, ◌+◌, ◌*◌, ◌<◌, ◌≤◌, ◌⊎◌, ◌↔◌, List, [], ◌∷◌, ◌++◌, false, length, replicate, All, IfOk, IfErr, IsTrue, MatchResult};
 ghost use Rattle.wh_path.specs.Paths.{steps_left};
-ghost use Rattle.wh_points.specs.Formed.{IsFormed};
 ghost use Rattle.wh_tasks.specs.declared.task.Task.{Task as Job};
 ghost use Rattle.wh_tasks.specs.declared.task.Phase.{Phase as Stage};
 ghost use Rattle.wh_tasks.specs.Tasks.{IsTask, IsOpen, phase};
 ghost use Rattle.wh_core.specs.Steps.{last_clock};
+ghost use Rattle.wh_core.specs.Laws.{AllOnTheirWays};
+ghost use Rattle.wh_book.specs.Drafts.{HasWaysForAll};
 ghost use Rattle.wh_event.specs.declared.event.Event.{Event as Asked};
 ghost use Rattle.wh_event.specs.declared.entry.Entry.{Entry as Line};
 ghost use Rattle.wh_progress.specs.Progress.{span, open_tasks, left_to_do, first_paths_left, HaveAtMost, AreOfTwoPlaces, StandsStill, IsHeld, AllDone};
@@ -110,7 +111,7 @@ fn begin<P: Plans>(
         × IfOk result (λ still. Begins warehouse.old.book.site warehouse.old.book.state still added warehouse.new.book.state) }
     ensures fault { IfErr result (λ fault. (fault ≡ BrokenOff.NoMemory) ⊎ (fault ≡ BrokenOff.Stuck)) }
     ensures why { IfErr result (λ fault. IsWhy warehouse.new.book.site fault warehouse.new.book.state) }
-    ensures formed { IfErr result (λ fault. fault ≡ BrokenOff.Stuck → ¬ IsFormed warehouse.old.book.site) }
+    ensures formed { IfErr result (λ fault. fault ≡ BrokenOff.Stuck → ¬ HasWaysForAll warehouse.old.book.site warehouse.old.book.opening) }
 {
     let Requests { some, in_vain } = match ask_all(alloc, warehouse, caller) {
         Ok(came) => came,
@@ -151,7 +152,8 @@ fn tick<P: Plans>(alloc: Global, warehouse: &mut Warehouse<P>, caller: u32) -> R
 /// stand. It returns how many ticks that took, 0 where nothing was left. The history has grown by these requests and ticks, each with the
 /// number of the caller.
 ///
-/// All stands still then. Where paths end at the last stop each task is done, or it is open and two agents are at two of its stops, neither
+/// All stands still then. What follows holds where all agents were on their ways as the history began, as where they stood at their
+/// starts; after a stop where they may stand anywhere it is not said. Where paths end at the last stop each task is done, or it is open and two agents are at two of its stops, neither
 /// at its last; where each task has its stops at two cells at most, as with two stops or from a shelf to a station and back, all are done.
 /// Where paths go on home to parkings all are done, whatever their stops are, and each agent is at home. (All of this needs an agent.)
 ///
@@ -180,20 +182,20 @@ pub fn deliver_all<P: Plans>(
     ensures in_turn { (added : List Line) × (warehouse.new.book.history ≡ warehouse.old.book.history ++ added) × RunInTurn warehouse.old.book.site warehouse.old.book.state [] added warehouse.new.book.state }
     ensures clock { IfOk result (λ ticks. warehouse.new.book.state.clock ≡ warehouse.old.book.state.clock + ticks) }
     ensures still { IfOk result (λ _. StandsStill warehouse.new.book.site warehouse.new.book.state) }
-    ensures held { IfOk result (λ _. warehouse.old.book.site.homes ≡ false → 0 < length warehouse.old.book.site.layout.agents → (n : ℕ) (job : Job) → IsTask warehouse.new.book.state.tasks n job
+    ensures held { IfOk result (λ _. AllOnTheirWays warehouse.old.book.site warehouse.old.book.opening → warehouse.old.book.site.homes ≡ false → 0 < length warehouse.old.book.site.layout.agents → (n : ℕ) (job : Job) → IsTask warehouse.new.book.state.tasks n job
         → (phase job ≡ Stage.Done) ⊎ (IsOpen job × IsHeld warehouse.new.book.state job)) }
-    ensures all_done { IfOk result (λ _. 0 < length warehouse.old.book.site.layout.agents → NoneCanStand warehouse.old.book.site warehouse.old.book.state → AllDone warehouse.new.book.state) }
-    ensures done { IfOk result (λ _. warehouse.old.book.site.homes ≡ false → 0 < length warehouse.old.book.site.layout.agents → AreOfTwoPlaces warehouse.old.book.state → AllDone warehouse.new.book.state) }
-    ensures within { IfOk result (λ ticks. (stops : ℕ) → IsFormed warehouse.old.book.site → HaveAtMost stops warehouse.old.book.state
+    ensures all_done { IfOk result (λ _. AllOnTheirWays warehouse.old.book.site warehouse.old.book.opening → 0 < length warehouse.old.book.site.layout.agents → NoneCanStand warehouse.old.book.site warehouse.old.book.state → AllDone warehouse.new.book.state) }
+    ensures done { IfOk result (λ _. AllOnTheirWays warehouse.old.book.site warehouse.old.book.opening → warehouse.old.book.site.homes ≡ false → 0 < length warehouse.old.book.site.layout.agents → AreOfTwoPlaces warehouse.old.book.state → AllDone warehouse.new.book.state) }
+    ensures within { IfOk result (λ ticks. (stops : ℕ) → HasWaysForAll warehouse.old.book.site warehouse.old.book.opening → HaveAtMost stops warehouse.old.book.state
         → ticks ≤ left_to_do warehouse.old.book.site stops warehouse.old.book.state) }
-    ensures bounded { IfOk result (λ ticks. warehouse.old.book.site.homes ≡ false → (stops : ℕ) → IsFormed warehouse.old.book.site → HaveAtMost stops warehouse.old.book.state
+    ensures bounded { IfOk result (λ ticks. warehouse.old.book.site.homes ≡ false → (stops : ℕ) → HasWaysForAll warehouse.old.book.site warehouse.old.book.opening → HaveAtMost stops warehouse.old.book.state
         → ticks ≤ 2 * span warehouse.old.book.site stops * (length warehouse.old.book.site.layout.agents + open_tasks warehouse.old.book.state)
         + first_paths_left warehouse.old.book.opening warehouse.old.book.state) }
     ensures why { IfErr result (λ fault. IsWhy warehouse.new.book.site fault warehouse.new.book.state) }
-    ensures formed { IfErr result (λ fault. fault ≡ BrokenOff.Stuck → ¬ IsFormed warehouse.old.book.site) }
-    ensures late_within { IfErr result (λ fault. fault ≡ BrokenOff.ClockFull → (stops : ℕ) → IsFormed warehouse.old.book.site → HaveAtMost stops warehouse.old.book.state
+    ensures formed { IfErr result (λ fault. fault ≡ BrokenOff.Stuck → ¬ HasWaysForAll warehouse.old.book.site warehouse.old.book.opening) }
+    ensures late_within { IfErr result (λ fault. fault ≡ BrokenOff.ClockFull → (stops : ℕ) → HasWaysForAll warehouse.old.book.site warehouse.old.book.opening → HaveAtMost stops warehouse.old.book.state
         → last_clock ≤ warehouse.old.book.state.clock + left_to_do warehouse.old.book.site stops warehouse.old.book.state) }
-    ensures late { IfErr result (λ fault. fault ≡ BrokenOff.ClockFull → warehouse.old.book.site.homes ≡ false → (stops : ℕ) → IsFormed warehouse.old.book.site → HaveAtMost stops warehouse.old.book.state
+    ensures late { IfErr result (λ fault. fault ≡ BrokenOff.ClockFull → warehouse.old.book.site.homes ≡ false → (stops : ℕ) → HasWaysForAll warehouse.old.book.site warehouse.old.book.opening → HaveAtMost stops warehouse.old.book.state
         → last_clock ≤ warehouse.old.book.state.clock + 2 * span warehouse.old.book.site stops * (length warehouse.old.book.site.layout.agents + open_tasks warehouse.old.book.state)
         + first_paths_left warehouse.old.book.opening warehouse.old.book.state) }
 {

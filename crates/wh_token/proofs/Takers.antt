@@ -1,12 +1,11 @@
 -- who takes the nearest order, of one agent more; and who is in nobody's way
-use Rattle.std.proofs.Common.{◌≡◌, ◌≢◌, ℕ, ◌+◌, ◌<◌, ◌≤◌, ◌∙◌, ◌⊎◌, inl, inr, List, [], Bool, true, false, length, get_or, refl, ap, sym, subst, arith}
+use Rattle.std.proofs.Common.{◌≡◌, ℕ, ◌+◌, ◌<◌, ◌∙◌, ◌⊎◌, inl, inr, List, Bool, true, false, length, get_or, refl, ap, sym, subst, arith}
 use Rattle.std.specs.Prelude.{Option, None, Some, slice_get}
 use Rattle.std.proofs.lemmas.Bool.{false≢true, cases_eq, cases_lt}
 use Rattle.std.proofs.lemmas.Option.{same_Some, slice_get-get_or, slice_get_within}
-use Rattle.std.proofs.lemmas.List.{get_or_default}
 use Rattle.wh_grid.specs.declared.cell.Cell.{Cell}
 use Rattle.wh_grid.specs.Grids.{Floor}
-use Rattle.wh_path.specs.Paths.{place_of, end, end_of}
+use Rattle.wh_path.specs.Paths.{place_of}
 use Rattle.wh_field.specs.Distances.{IsDistance, distance}
 use Rattle.wh_field.proofs.DistanceLaws.{distance_one}
 use Rattle.wh_points.specs.Points.{Site}
@@ -15,16 +14,11 @@ use Rattle.wh_tasks.specs.declared.task.Load.{Load}
 use Rattle.wh_tasks.specs.Tasks.{IsTask, pickup}
 use Rattle.wh_tasks.specs.Choice.{IsAtMost, IsNearest}
 use Rattle.wh_core.specs.States.{State, load_of}
-use Rattle.wh_core.specs.Steps.{Answers, Run, IsDue, IsNext, IsNextBy, NoneIsNext, IsDeliveryCell, MakesWay, other_ends}
-use Rattle.wh_core.specs.Ordinary as plain
-use Rattle.wh_core.specs.Laws.{AllOnTheirWays, IsBeginningOnTheirWays}
-use Rattle.wh_core.proofs.Work.{IsKept}
-use Rattle.wh_core.proofs.Sound.{begun-reached, kept-reached, ways-reached, ways-unloaded, none-halted}
-use Rattle.wh_core.proofs.Ways.{end-berth}
-use Rattle.wh_event.specs.declared.entry.Entry.{Entry}
+use Rattle.wh_core.specs.Steps.{Answers, IsDue, IsNext, IsNextBy, NoneIsNext, MakesWay, other_ends}
 use Rattle.wh_event.specs.declared.event.Event.{Event}
 use Rattle.wh_event.specs.declared.reply.Reply.{Reply}
 use Rattle.wh_token.specs.declared.asking.Taker.{Taker}
+use Rattle.wh_token.proofs.Duties.{next-there}
 use Rattle.wh_token.specs.Asking.{MayBeAsked, IsAmong, WouldTake, TakesNearest, NoneTakes, MakesWayFirst, IsNearestTaker, AllWouldRest}
 
 true-false : Some true ≡ Some false → ⊥
@@ -57,21 +51,37 @@ next-none site s agent n task next none =
     let nearest : IsNearest site.grid s.tasks (other_ends s agent) (place_of s.paths agent) n task = subst (λ l. IsNextBy l site s agent n task) none.0 next in
     none.1 n task nearest.eligible
 
--- due agents have no load
-abbrev pub AreUnloaded : Site → State → Type 0
-AreUnloaded site s = (agent : ℕ) → IsDue site s agent → load_of s agent ≡ Load.None
+-- a distance is no farther than itself
+at_most-same : (a : Option ℕ) (agent : ℕ) → IsAtMost a agent a agent
+at_most-same (Some d) agent = inr (refl, omega arith)
+at_most-same None agent = omega arith
+
+-- two orders of one number are one
+at_most-one : (site : Site) (s : State) (agent n m : ℕ) (task job : Task) (near far : Option ℕ) → n ≡ m → IsTask s.tasks n task → IsTask s.tasks m job →
+    IsDistance site.grid (place_of s.paths agent) (pickup task) near → IsDistance site.grid (place_of s.paths agent) (pickup job) far → IsAtMost near agent far agent
+at_most-one site s agent n m task job near far same first second one other =
+    let here = place_of s.paths agent in
+    let are : task ≡ job = same_Some task job (sym first ∙ subst (λ k. IsTask s.tasks k job) (sym same) second) in
+    let is : near ≡ far = distance_one site.grid here (pickup task) near one ∙ ap (λ (t : Task). distance site.grid here (pickup t)) are
+    ∙ sym (distance_one site.grid here (pickup job) far other) in
+    subst (λ d. IsAtMost near agent d agent) is (at_most-same near agent)
 
 -- whichever order is next for an agent, it is no farther than another that is
-one-distance : (site : Site) (s : State) (agent n m : ℕ) (near far : Option ℕ) → AreUnloaded site s →
-    WouldTake site s agent n near → WouldTake site s agent m far → IsAtMost near agent far agent
-one-distance site s agent n m near far free one other =
-    let none = free agent one.due in
+distance-by : (load : Load) (site : Site) (s : State) (agent n m : ℕ) (task job : Task) (near far : Option ℕ) →
+    IsNextBy load site s agent n task → IsNextBy load site s agent m job →
+    IsDistance site.grid (place_of s.paths agent) (pickup task) near → IsDistance site.grid (place_of s.paths agent) (pickup job) far → IsAtMost near agent far agent
+distance-by Load.None site s agent n m task job near far first second one other =
     let here = place_of s.paths agent in
-    let first : IsNearest site.grid s.tasks (other_ends s agent) here n one.task = subst (λ l. IsNextBy l site s agent n one.task) none one.next in
-    let second : IsNearest site.grid s.tasks (other_ends s agent) here m other.task = subst (λ l. IsNextBy l site s agent m other.task) none other.next in
-    let is : first.distance ≡ near = distance_one site.grid here (pickup one.task) first.distance first.is_distance
-    ∙ sym (distance_one site.grid here (pickup one.task) near one.is_distance) in
-    at_most-alike near n far m agent (subst (λ d. IsAtMost d n far m) is (first.least m other.task far second.eligible other.is_distance))
+    let is : first.distance ≡ near = distance_one site.grid here (pickup task) first.distance first.is_distance ∙ sym (distance_one site.grid here (pickup task) near one) in
+    at_most-alike near n far m agent (subst (λ d. IsAtMost d n far m) is (first.least m job far second.eligible other))
+distance-by (Load.Fetching k) site s agent n m task job near far first second one other =
+    at_most-one site s agent n m task job near far (first.0 ∙ sym second.0) first.1.there second.1.there one other
+distance-by (Load.Carrying k seen) site s agent n m task job near far first second one other =
+    at_most-one site s agent n m task job near far (first.0 ∙ sym second.0) first.1.there second.1.there one other
+
+one-distance : (site : Site) (s : State) (agent n m : ℕ) (near far : Option ℕ) → WouldTake site s agent n near → WouldTake site s agent m far → IsAtMost near agent far agent
+one-distance site s agent n m near far one other =
+    distance-by (load_of s agent) site s agent n m one.task other.task near far one.next other.next one.is_distance other.is_distance
 
 -- of more agents
 
@@ -99,37 +109,37 @@ taker-stays site s These Those (Some t) all more best = record {
 abbrev pub AreWith : (ℕ → Type 0) → ℕ → (ℕ → Type 0) → Type 0
 AreWith These agent Those = (other : ℕ) → Those other → These other ⊎ (other ≡ agent)
 
-pub taker-first : (site : Site) (s : State) (These Those : ℕ → Type 0) (one : Taker) (n : ℕ) → AreUnloaded site s → AreWith These one.agent Those → Those one.agent →
+pub taker-first : (site : Site) (s : State) (These Those : ℕ → Type 0) (one : Taker) (n : ℕ) → AreWith These one.agent Those → Those one.agent →
     WouldTake site s one.agent n one.steps → NoneTakes site s These → TakesNearest site s Those one.agent one.steps
-taker-first site s These Those one n free more there takes none = record {
+taker-first site s These Those one n more there takes none = record {
   one = there;
   number = n;
   takes = takes;
   least = λ other m far is would. elim (more other is) [
     | inl before ↦ absurd (next-none site s other m would.task would.next (none other before would.due))
     | inr same ↦ subst (λ a. IsAtMost one.steps one.agent far a) (sym same)
-        (one-distance site s one.agent n m one.steps far free takes (subst (λ a. WouldTake site s a m far) same would))
+        (one-distance site s one.agent n m one.steps far takes (subst (λ a. WouldTake site s a m far) same would))
   ];
 }
 
-pub taker-nearer : (site : Site) (s : State) (These Those : ℕ → Type 0) (one best : Taker) (n : ℕ) → AreUnloaded site s → AreWith These one.agent Those → Those one.agent →
+pub taker-nearer : (site : Site) (s : State) (These Those : ℕ → Type 0) (one best : Taker) (n : ℕ) → AreWith These one.agent Those → Those one.agent →
     WouldTake site s one.agent n one.steps → TakesNearest site s These best.agent best.steps → IsAtMost one.steps one.agent best.steps best.agent →
     TakesNearest site s Those one.agent one.steps
-taker-nearer site s These Those one best n free more there takes old nearer = record {
+taker-nearer site s These Those one best n more there takes old nearer = record {
   one = there;
   number = n;
   takes = takes;
   least = λ other m far is would. elim (more other is) [
     | inl before ↦ at_most-trans one.steps one.agent best.steps best.agent far other nearer (old.least other m far before would)
     | inr same ↦ subst (λ a. IsAtMost one.steps one.agent far a) (sym same)
-        (one-distance site s one.agent n m one.steps far free takes (subst (λ a. WouldTake site s a m far) same would))
+        (one-distance site s one.agent n m one.steps far takes (subst (λ a. WouldTake site s a m far) same would))
   ];
 }
 
-pub taker-farther : (site : Site) (s : State) (These Those : ℕ → Type 0) (one best : Taker) (n : ℕ) → AreUnloaded site s → AreWith These one.agent Those →
+pub taker-farther : (site : Site) (s : State) (These Those : ℕ → Type 0) (one best : Taker) (n : ℕ) → AreWith These one.agent Those →
     ((agent : ℕ) → These agent → Those agent) → WouldTake site s one.agent n one.steps → TakesNearest site s These best.agent best.steps →
     IsAtMost best.steps best.agent one.steps one.agent → TakesNearest site s Those best.agent best.steps
-taker-farther site s These Those one best n free more all takes old farther = record {
+taker-farther site s These Those one best n more all takes old farther = record {
   one = all best.agent old.one;
   number = old.number;
   takes = old.takes;
@@ -137,7 +147,7 @@ taker-farther site s These Those one best n free more all takes old farther = re
     | inl before ↦ old.least other m far before would
     | inr same ↦ subst (λ a. IsAtMost best.steps best.agent far a) (sym same)
         (at_most-trans best.steps best.agent one.steps one.agent far one.agent farther
-        (one-distance site s one.agent n m one.steps far free takes (subst (λ a. WouldTake site s a m far) same would)))
+        (one-distance site s one.agent n m one.steps far takes (subst (λ a. WouldTake site s a m far) same would)))
   ];
 }
 
@@ -170,34 +180,6 @@ among-none site s asked count none agent is = elim (among-with asked count agent
 
 -- in nobody's way
 
--- what a run of a book gives: a due agent has no load
-pub run-unloaded : (site : Site) (opening : State) (history : List Entry) (s : State) → IsBeginningOnTheirWays site opening → Run site opening history s → AreUnloaded site s
-run-unloaded site opening history s is run agent due =
-    let r = begun-reached site opening history s is run in
-    ways-unloaded site s agent (kept-reached site history s r.reached) (ways-reached site history s r) due
-
--- it is told to rest where no open task is delivered at the end of its path, or paths go on home
-pub run-rests : (site : Site) (opening : State) (history : List Entry) (s : State) (agent : ℕ) → IsBeginningOnTheirWays site opening → Run site opening history s →
-    (site.homes ≡ false → ¬ IsDeliveryCell s (end_of s.paths agent)) → NoneIsNext s agent → IsDue site s agent → Answers site s Reply.Rested (Event.Request agent) s
-run-rests site opening history s agent is run away none due =
-    let r = begun-reached site opening history s is run in
-    let kept = kept-reached site history s r.reached in
-    let ways = ways-reached site history s r in (
-      due,
-      none,
-      record {
-        berth = end-berth site s agent ways due;
-        not_wanted = λ wanted. elim wanted.1 [
-          | inl at_it ↦ away wanted.0 at_it
-          | inr awaited ↦ none-halted site s awaited.0 awaited.1 kept ways awaited.2
-        ];
-      },
-      refl,
-    )
-
-pub way-made : (site : Site) (s : State) (agent : ℕ) → site.homes ≡ false → NoneIsNext s agent → IsDeliveryCell s (end_of s.paths agent) → MakesWay site s agent
-way-made site s agent off none at_it = record { no_work = inl none; in_the_way = inl (off, inl at_it) }
-
 -- who rests does not make way
 pub rests-way : (site : Site) (s new : State) (agent : ℕ) → Answers site s Reply.Rested (Event.Request agent) new → MakesWay site s agent → ⊥
 rests-way site s new agent rests way = elim way.in_the_way [
@@ -212,15 +194,15 @@ pub asked-read : (asked : List Bool) (agent : ℕ) (d b : Bool) → agent < leng
 asked-read asked agent d b lt is = slice_get-get_or asked agent d lt ∙ ap (λ x. Some x) is
 
 -- an order that was found for a due agent, and its distance as the field tells it
-pub would-take : (site : Site) (s : State) (agent n : ℕ) (found job : Task) (steps : Option ℕ) (g : Floor) (from to : Cell) → AreUnloaded site s → IsDue site s agent →
-    plain.IsNext site s agent n found → IsTask s.tasks n job → g ≡ site.grid → from ≡ place_of s.paths agent → to ≡ pickup job → IsDistance g from to steps →
+pub would-take : (site : Site) (s : State) (agent n : ℕ) (found job : Task) (steps : Option ℕ) (g : Floor) (from to : Cell) → IsDue site s agent →
+    IsNext site s agent n found → IsTask s.tasks n job → g ≡ site.grid → from ≡ place_of s.paths agent → to ≡ pickup job → IsDistance g from to steps →
     WouldTake site s agent n steps
-would-take site s agent n found job steps g from to free due next there over here first is =
-    let same : found ≡ job = same_Some found job (sym next.eligible.there ∙ there) in
+would-take site s agent n found job steps g from to due next there over here first is =
+    let same : found ≡ job = same_Some found job (sym (next-there site s agent n found next) ∙ there) in
     record {
       due = due;
       task = job;
-      next = subst (λ l. IsNextBy l site s agent n job) (sym (free agent due)) (subst (λ t. plain.IsNext site s agent n t) same next);
+      next = subst (λ (t : Task). IsNext site s agent n t) same next;
       is_distance = rw (← over, ← here, ← first) is;
     }
 
@@ -238,24 +220,24 @@ IsTaker site s agent one = (one.agent ≡ agent) × ((n : ℕ) × WouldTake site
 taker-own : (site : Site) (s : State) (agent : ℕ) (one : Taker) (is : IsTaker site s agent one) → WouldTake site s one.agent is.1.0 one.steps
 taker-own site s agent one is = subst (λ a. WouldTake site s a is.1.0 one.steps) (sym is.0) is.1.1
 
-pub among-first : (site : Site) (s : State) (asked : List Bool) (agent : ℕ) (one : Taker) → AreUnloaded site s → MayBeAsked asked agent → IsTaker site s agent one →
+pub among-first : (site : Site) (s : State) (asked : List Bool) (agent : ℕ) (one : Taker) → MayBeAsked asked agent → IsTaker site s agent one →
     NoneTakes site s (IsAmong asked agent) → TakesNearest site s (IsAmong asked (agent + 1)) one.agent one.steps
-among-first site s asked agent one free may is none =
-    taker-first site s (IsAmong asked agent) (IsAmong asked (agent + 1)) one is.1.0 free (among-one asked agent one is.0) (among-this asked agent one is.0 may)
+among-first site s asked agent one may is none =
+    taker-first site s (IsAmong asked agent) (IsAmong asked (agent + 1)) one is.1.0 (among-one asked agent one is.0) (among-this asked agent one is.0 may)
     (taker-own site s agent one is) none
 
-pub among-nearer : (site : Site) (s : State) (asked : List Bool) (agent : ℕ) (one best : Taker) → AreUnloaded site s → MayBeAsked asked agent → IsTaker site s agent one →
+pub among-nearer : (site : Site) (s : State) (asked : List Bool) (agent : ℕ) (one best : Taker) → MayBeAsked asked agent → IsTaker site s agent one →
     TakesNearest site s (IsAmong asked agent) best.agent best.steps → IsAtMost one.steps one.agent best.steps best.agent →
     TakesNearest site s (IsAmong asked (agent + 1)) one.agent one.steps
-among-nearer site s asked agent one best free may is old nearer =
-    taker-nearer site s (IsAmong asked agent) (IsAmong asked (agent + 1)) one best is.1.0 free (among-one asked agent one is.0) (among-this asked agent one is.0 may)
+among-nearer site s asked agent one best may is old nearer =
+    taker-nearer site s (IsAmong asked agent) (IsAmong asked (agent + 1)) one best is.1.0 (among-one asked agent one is.0) (among-this asked agent one is.0 may)
     (taker-own site s agent one is) old nearer
 
-pub among-farther : (site : Site) (s : State) (asked : List Bool) (agent : ℕ) (one best : Taker) → AreUnloaded site s → IsTaker site s agent one →
+pub among-farther : (site : Site) (s : State) (asked : List Bool) (agent : ℕ) (one best : Taker) → IsTaker site s agent one →
     TakesNearest site s (IsAmong asked agent) best.agent best.steps → IsAtMost best.steps best.agent one.steps one.agent →
     TakesNearest site s (IsAmong asked (agent + 1)) best.agent best.steps
-among-farther site s asked agent one best free is old farther =
-    taker-farther site s (IsAmong asked agent) (IsAmong asked (agent + 1)) one best is.1.0 free (among-one asked agent one is.0) (among-more asked agent)
+among-farther site s asked agent one best is old farther =
+    taker-farther site s (IsAmong asked agent) (IsAmong asked (agent + 1)) one best is.1.0 (among-one asked agent one is.0) (among-more asked agent)
     (taker-own site s agent one is) old farther
 
 -- all were looked at
@@ -301,9 +283,3 @@ way-first site s asked agent before may none way = record {
     | inr high ↦ omega arith
   ];
 }
-
--- where its path ends, as it was read
-pub end-read : (paths read : List (List Cell)) (agent : ℕ) (path : List Cell) (there : Cell) → read ≡ paths → agent < length paths →
-    path ≡ get_or read agent path → there ≡ end path → there ≡ end_of paths agent
-end-read paths read agent path there same known is ends =
-    ends ∙ ap end (is ∙ ap (λ ps. get_or ps agent path) same ∙ get_or_default paths agent path [] known)

@@ -1,6 +1,6 @@
 -- who is asked next for an order
 use Rattle.std.specs.Prelude.{◌≡◌, ℕ, ◌<◌, ◌≤◌, ◌⊎◌, List, Bool, false, Option, Some, MatchOption, slice_get}
-use Rattle.wh_path.specs.Paths.{place_of, end_of}
+use Rattle.wh_path.specs.Paths.{place_of}
 use Rattle.wh_field.specs.Distances.{IsDistance}
 use Rattle.wh_points.specs.Points.{Site}
 use Rattle.wh_tasks.specs.declared.task.Task.{Task}

@@ -55,7 +55,6 @@ fn would_take(book: &Book, near: &mut LazyField, agent: u32) -> Option<Taker>
     ensures none { IfNone result (IsDue book.now.site book.now.state agent → NoneIsNext book.now.state agent) }
     ensures takes { IfSome result (λ t. (t.agent ≡ agent) × ((n : ℕ) × WouldTake book.now.site book.now.state agent n t.steps)) }
 {
-    let _run = book.history();
     if !is_due(book, agent) {
         return None;
     }
@@ -84,7 +83,6 @@ fn with_taker(
     ensures grid { near.new.grid ≡ near.old.grid }
     ensures best { IsNearestTaker book.now.site book.now.state (IsAmong asked.now (agent + 1)) result }
 {
-    let _run = book.history();
     if asked[agent as usize] {
         return best;
     }
@@ -128,14 +126,7 @@ fn makes_way(book: &Book, agent: u32) -> bool
     ensures way { IsTrue result → IsDue book.now.site book.now.state agent × MakesWay book.now.site book.now.state agent }
     ensures rests { result ≡ false → IsDue book.now.site book.now.state agent → Answers book.now.site book.now.state Answer.Rested (Asked.Request agent) book.now.state }
 {
-    let _run = book.history();
-    if book.setting().homes() {
-        return false;
-    }
-    if !is_due(book, agent) {
-        return false;
-    }
-    book.tasks().delivers_at(book.paths()[agent as usize].end())
+    is_due(book, agent) && !book.may_rest(agent)
 }
 
 /// The first agent that has to make way, of those that were not asked and take no order.

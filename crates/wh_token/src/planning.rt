@@ -1,14 +1,11 @@
 //! What a request is answered, and the paths that are planned for it.
 
-ghost use Rattle.std.specs.Prelude.{◌≡◌, ◌<◌, ◌≤◌, ◌↔◌, length, Contains, IfOk, IfErr, IfNone, IfSome, MatchBool};
-ghost use Rattle.wh_grid.specs.declared.cell.Cell.{Cell as Place};
+ghost use Rattle.std.specs.Prelude.{◌≡◌, ℕ, ◌≤◌, length, Contains, IfOk, IfErr, IfNone, IfSome};
 ghost use Rattle.wh_tasks.specs.declared.task.Task.{Task as Job};
-ghost use Rattle.wh_tasks.specs.Tasks.{IsTask};
+ghost use Rattle.wh_tasks.specs.Tasks.{stops_left};
 ghost use Rattle.wh_event.specs.declared.event.Event.{Event as Asked};
 ghost use Rattle.wh_planner.specs.Duties.{IsLawful, HasNoClearWay, Delivers, ParksAt};
-ghost use Rattle.wh_core.specs.Steps.{IsDue, tour};
-ghost use Rattle.wh_core.specs.Ordinary.{IsNext, NoneIsNext, IsAllowed};
-ghost use Rattle.wh_book.specs.OnTheirWays.{Answers, MakesWay, IsOutOfTheWay};
+ghost use Rattle.wh_core.specs.Steps.{Answers, IsAllowed, IsDue, IsNext, MakesWay, tour};
 ghost use Rattle.wh_book.specs.Drafts.{Drafts};
 ghost use Rattle.wh_token.specs.Fleet.{TellsSpare, OthersStay};
 
@@ -39,7 +36,8 @@ impl<P: Plans> Warehouse<P> {
         }
     }
 
-    /// A path for the agent, which is due, to deliver the task: through its stops, and then home if paths go on home.
+    /// A path for the agent, which is due, to deliver its next task: through the stops that are left, and then home if paths go on
+    /// home.
     fn plan_delivery(
         &mut self,
         alloc: Global,
@@ -47,13 +45,13 @@ impl<P: Plans> Warehouse<P> {
         task: u32,
     ) -> Result<TimedPath, PlanFault>
         requires due { IsDue self.old.book.site self.old.book.state agent }
-        requires task { task < length self.old.book.state.tasks }
+        requires next { (job : Job) × IsNext self.old.book.site self.old.book.state agent task job }
         ensures book { self.new.book ≡ self.old.book }
         ensures others { OthersStay agent self.old.planners self.new.planners }
-        ensures lawful { IfOk result (λ path. (job : Job) × IsTask self.old.book.state.tasks task job
-            × IsLawful self.old.book.site.grid self.old.book.site.layout.nofollow self.old.book.state.paths agent (length (tour self.old.book.site agent job.stops)) (Delivers (tour self.old.book.site agent job.stops)) path) }
-        ensures no_path { IfErr result (λ fault. fault ≡ PlanFault.NoPath → ((job : Job) × IsTask self.old.book.state.tasks task job
-            × HasNoClearWay self.old.book.site.grid self.old.book.state.paths agent (Delivers (tour self.old.book.site agent job.stops)))) }
+        ensures lawful { IfOk result (λ path. (job : Job) × IsNext self.old.book.site self.old.book.state agent task job
+            × IsLawful self.old.book.site.grid self.old.book.site.layout.nofollow self.old.book.state.paths agent (length (tour self.old.book.site agent job.stops)) (Delivers (tour self.old.book.site agent (stops_left job))) path) }
+        ensures no_path { IfErr result (λ fault. fault ≡ PlanFault.NoPath → ((job : Job) × IsNext self.old.book.site self.old.book.state agent task job
+            × HasNoClearWay self.old.book.site.grid self.old.book.state.paths agent (Delivers (tour self.old.book.site agent (stops_left job))))) }
     {
         let tour = self.book.tour(agent, task);
         let scene = Scene {
@@ -107,31 +105,40 @@ impl<P: Plans> Warehouse<P> {
     {
         match self.plan_delivery(alloc, agent, task) {
             Ok(path) => self.book.draft_took(alloc, caller, agent, task, path),
-            Err(PlanFault::NoPath) => {
-                let event = Event::Request { agent };
-                Ok(self.book.refuse(caller, event, Refusal::NoPath))
-            }
+            Err(PlanFault::NoPath) => self.draft_shut_in(alloc, caller, agent),
             Err(PlanFault::NoMemory) => Err(AllocError),
         }
     }
 
-    /// The draft of a request by a due agent that stands in the way, and may park at these cells.
-    fn draft_parking(
-        &mut self,
-        alloc: Global,
-        caller: u32,
-        agent: u32,
-        allowed: &[Cell],
-    ) -> Result<Draft, AllocError>
+    /// The draft of a request by a due agent that has no clear way for its next task. A stray that may not rest where its path ends
+    /// makes way; any other is refused.
+    fn draft_shut_in(&mut self, alloc: Global, caller: u32, agent: u32) -> Result<Draft, AllocError>
         requires due { IsDue self.old.book.site self.old.book.state agent }
-        requires makes_way { MakesWay self.old.book.site self.old.book.state agent }
-        requires allowed { (cell : Place) → Contains allowed.now cell ↔ IsAllowed self.old.book.site self.old.book.state agent cell }
+        requires no_way { (n : ℕ) × (job : Job) × IsNext self.old.book.site self.old.book.state agent n job
+            × HasNoClearWay self.old.book.site.grid self.old.book.state.paths agent (Delivers (tour self.old.book.site agent (stops_left job))) }
         requires room { 1 ≤ self.old.book.entry_room }
         ensures book { self.new.book ≡ self.old.book }
         ensures others { OthersStay agent self.old.planners self.new.planners }
         ensures drafts { IfOk result (Drafts self.old.book caller (Asked.Request agent)) }
     {
-        match self.plan_parking(alloc, agent, allowed) {
+        if !self.book.is_stray(agent) || self.book.may_rest(agent) {
+            let event = Event::Request { agent };
+            return Ok(self.book.refuse(caller, event, Refusal::NoPath));
+        }
+        self.draft_parking(alloc, caller, agent)
+    }
+
+    /// The draft of a request by a due agent that has to make way: it goes to a cell at which it may park.
+    fn draft_parking(&mut self, alloc: Global, caller: u32, agent: u32) -> Result<Draft, AllocError>
+        requires due { IsDue self.old.book.site self.old.book.state agent }
+        requires makes_way { MakesWay self.old.book.site self.old.book.state agent }
+        requires room { 1 ≤ self.old.book.entry_room }
+        ensures book { self.new.book ≡ self.old.book }
+        ensures others { OthersStay agent self.old.planners self.new.planners }
+        ensures drafts { IfOk result (Drafts self.old.book caller (Asked.Request agent)) }
+    {
+        let allowed = self.book.allowed(alloc, agent)?;
+        match self.plan_parking(alloc, agent, allowed.as_slice()) {
             Ok(path) => self.book.draft_parked(alloc, caller, agent, path),
             Err(PlanFault::NoPath) => {
                 let event = Event::Request { agent };
@@ -141,8 +148,7 @@ impl<P: Plans> Warehouse<P> {
         }
     }
 
-    /// The reply to a request, where it is known at once and changes nothing. With none the agent is due, while tasks are
-    /// open.
+    /// The reply to a request, where it is known at once and changes nothing. With none the agent is due.
     #[inline(always)]
     #[tactic(auto, using(crate::proofs::Duties::due_now))]
     pub(crate) fn answer_at_once(&self, agent: u32) -> Option<Reply>
@@ -165,19 +171,6 @@ impl<P: Plans> Warehouse<P> {
         None
     }
 
-    /// Whether the agent, which may take no task, has to make way. Where paths go on home it never has.
-    fn makes_way(&self, agent: u32) -> bool
-        requires known { agent < length self.now.book.state.paths }
-        requires none { NoneIsNext self.now.book.state agent }
-        ensures { MatchBool result (MakesWay self.now.book.site self.now.book.state agent) (IsOutOfTheWay self.now.book.site self.now.book.state agent) }
-    {
-        if self.book.setting().homes() {
-            return false;
-        }
-        let here = self.book.paths()[agent as usize].start();
-        self.book.tasks().delivers_at(here)
-    }
-
     /// The draft of a request by a due agent.
     #[tactic(auto, using(crate::proofs::Seats::others_same))]
     pub(crate) fn draft_choice(
@@ -195,15 +188,14 @@ impl<P: Plans> Warehouse<P> {
         if let Some(task) = self.book.next(agent, &mut self.near) {
             return self.draft_delivery(alloc, caller, agent, task);
         }
-        if !self.makes_way(agent) {
+        if self.book.may_rest(agent) {
             let event = Event::Request { agent };
             return Ok(self.book.draft_answer(caller, event, Reply::Rested));
         }
-        let allowed = self.book.allowed(alloc, agent)?;
-        self.draft_parking(alloc, caller, agent, allowed.as_slice())
+        self.draft_parking(alloc, caller, agent)
     }
 
-    /// The draft of a request. Where no task is open the agent rests, wherever it is.
+    /// The draft of a request.
     #[tactic(auto, using(crate::proofs::Seats::others_same))]
     pub(crate) fn draft_request(
         &mut self,

@@ -1,14 +1,14 @@
 //! What can be read of a warehouse.
 
-ghost use Rattle.std.specs.Prelude.{◌≡◌, ℕ, ◌<◌, ◌≤◌, List, Some, length, slice_get, IfOk};
-ghost use Rattle.wh_points.specs.Formed.{IsFormed};
+ghost use Rattle.std.specs.Prelude.{◌≡◌, ℕ, ◌<◌, ◌≤◌, List, Some, length, slice_get, IfNone, IfOk, IfSome};
 ghost use Rattle.wh_path.specs.Paths.{place_of, steps_left};
 ghost use Rattle.wh_tasks.specs.Tasks.{IsTask};
 ghost use Rattle.wh_ledger.specs.Ledgers.{rows_of};
 ghost use Rattle.wh_core.specs.States.{opened};
-ghost use Rattle.wh_core.specs.Laws.{IsOpening, IsBeginningOnTheirWays};
+ghost use Rattle.wh_core.specs.Laws.{IsOpening, IsBeginning, AllOnTheirWays};
 ghost use Rattle.wh_core.specs.Steps.{Run, last_clock};
-ghost use Rattle.wh_book.specs.Drafts.{AllServed};
+ghost use Rattle.wh_book.specs.Drafts.{AllServed, HasWaysForAll};
+ghost use Rattle.wh_book.specs.Ways.{IsFirstStray};
 ghost use Rattle.wh_token.specs.Fleet.{IsTied};
 
 use crate::warehouse::Warehouse;
@@ -98,15 +98,24 @@ impl<P: Plans> Warehouse<P> {
         DeliveryLedger::of(alloc, self.book.tasks())
     }
 
-    /// All entries so far: a run from the opening state to the state. On a well-formed instance none of them is a refusal
-    /// for lack of a path.
+    /// The first agent that is not on its way: its path does not end where it may come to rest, or does not lead it through the stops
+    /// that are left of its task. It takes constant time once all are on their ways.
+    pub fn first_stray(&self) -> Option<u32>
+        ensures some { IfSome result (IsFirstStray self.now.book.site self.now.book.state) }
+        ensures none { IfNone result (AllOnTheirWays self.now.book.site self.now.book.state) }
+    {
+        self.book.first_stray()
+    }
+
+    /// All entries so far: a run from the opening state to the state. On a well-formed instance, where all were on their ways at the
+    /// opening, none of them is a refusal for lack of a path.
     pub fn history(&self) -> &[Entry]
         ensures value { result.now ≡ self.now.book.history }
-        ensures opening { IsBeginningOnTheirWays self.now.book.site self.now.book.opening }
+        ensures opening { IsBeginning self.now.book.site self.now.book.opening }
         // Where the agents stood at their starts, that is an opening.
         ensures opened { (clock : ℕ) (slots : List ℕ) → self.now.book.opening ≡ opened self.now.book.site.layout clock slots → IsOpening self.now.book.site self.now.book.opening }
         ensures run { Run self.now.book.site self.now.book.opening self.now.book.history self.now.book.state }
-        ensures served { IsFormed self.now.book.site → AllServed self.now.book.history }
+        ensures served { HasWaysForAll self.now.book.site self.now.book.opening → AllServed self.now.book.history }
     {
         self.book.history()
     }

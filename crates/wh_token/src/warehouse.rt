@@ -2,7 +2,6 @@
 #![tactic(auto)]
 
 ghost use Rattle.std.specs.Prelude.{◌≡◌, ◌≢◌, ◌+◌, ◌-◌, ◌<◌, ◌≤◌, ◌↔◌, List, [], ◌∷◌, ◌++◌, Option, Some, true, false, length, IfOk, IfErr, IsTrue, MatchBool, MatchResult};
-ghost use Rattle.wh_points.specs.Formed.{IsFormed};
 ghost use Rattle.wh_event.specs.declared.event.Event.{Event as Asked};
 ghost use Rattle.wh_event.specs.declared.reply.Reply.{Reply as Answer};
 ghost use Rattle.wh_event.specs.declared.reply.Refusal.{Refusal as Reason};
@@ -10,10 +9,9 @@ ghost use Rattle.wh_event.specs.declared.entry.Entry.{Entry as Line};
 ghost use Rattle.wh_event.specs.declared.event.Spare.{Spare as Told};
 ghost use Rattle.wh_event.specs.declared.event.Command.{Command as Asks};
 ghost use Rattle.wh_core.specs.States.{arrived, moved};
-ghost use Rattle.wh_core.specs.Steps.{Step, Run, IsDue, last_clock};
-ghost use Rattle.wh_book.specs.OnTheirWays.{Answers};
+ghost use Rattle.wh_core.specs.Steps.{Answers, Step, Run, IsDue, last_clock};
 ghost use Rattle.wh_shared.specs.Shares.{stored_grid};
-ghost use Rattle.wh_book.specs.Drafts.{IsSame, IsReady, StaysReady, Drafts, AllServed, ticked};
+ghost use Rattle.wh_book.specs.Drafts.{IsSame, IsReady, StaysReady, Drafts, AllServed, HasWaysForAll, ticked};
 ghost use Rattle.wh_token.specs.Commands.{event_of};
 ghost use Rattle.wh_token.specs.Fleet.{TellsFor, Swaps, IsSeated, StaySeated, replaced_agent};
 ghost use Rattle.wh_token.specs.Houses.{StaysAt};
@@ -145,7 +143,7 @@ impl<P: Plans> Warehouse<P> {
         ensures stays { StaysAt self.old.book self.new.book }
         ensures history { self.new.book.history ≡ self.old.book.history ++ result.entry ∷ [] }
         ensures step { Step self.old.book.site self.old.book.state result.entry self.new.book.state }
-        ensures served { IsFormed self.old.book.site → result.entry.reply ≢ Answer.Refused Reason.NoPath }
+        ensures served { HasWaysForAll self.old.book.site self.old.book.opening → result.entry.reply ≢ Answer.Refused Reason.NoPath }
         ensures seats { length self.old.planners ≡ length self.old.book.state.paths }
         ensures swaps { Swaps (replaced_agent result.entry) self.old.planners ready.spare self.new.planners result.back }
     {
@@ -161,7 +159,7 @@ impl<P: Plans> Warehouse<P> {
         ensures stays { StaysAt self.old.book self.new.book }
         ensures history { self.new.book.history ≡ self.old.book.history ++ draft.entry ∷ [] }
         ensures step { Step self.old.book.site self.old.book.state draft.entry self.new.book.state }
-        ensures served { IsFormed self.old.book.site → draft.entry.reply ≢ Answer.Refused Reason.NoPath }
+        ensures served { HasWaysForAll self.old.book.site self.old.book.opening → draft.entry.reply ≢ Answer.Refused Reason.NoPath }
         ensures seats { length self.old.planners ≡ length self.old.book.state.paths }
         ensures swaps { Swaps (replaced_agent draft.entry) self.old.planners spare self.new.planners result }
     {
@@ -181,7 +179,7 @@ impl<P: Plans> Warehouse<P> {
         ensures stays { StaysAt self.old.book self.new.book }
         ensures history { MatchResult result (λ done. self.new.book.history ≡ self.old.book.history ++ done.entry ∷ []) (λ _. self.new.book.history ≡ self.old.book.history) }
         ensures step { MatchResult result (λ done. Step self.old.book.site self.old.book.state done.entry self.new.book.state) (λ _. self.new.book.state ≡ self.old.book.state) }
-        ensures served { IfOk result (λ done. IsFormed self.old.book.site → done.entry.reply ≢ Answer.Refused Reason.NoPath) }
+        ensures served { IfOk result (λ done. HasWaysForAll self.old.book.site self.old.book.opening → done.entry.reply ≢ Answer.Refused Reason.NoPath) }
         ensures caller { IfOk result (λ done. done.entry.caller ≡ caller) }
         ensures event { IfOk result (λ done. ((told : Told) × (done.entry.event ≡ event_of command told))) }
         ensures tells { IfOk result (λ done. TellsFor P.fits_map P.slot_count self.old.book.site.grid spare done.entry.event) }
@@ -335,7 +333,7 @@ impl<P: Plans> Warehouse<P> {
             × RanBy P.fits_map P.slot_count self.old.book.site caller commands.now outcomes self.old.book.state spares.old.items self.new.book.state spares.new.items) }
         ensures run { ((added : List Line) × (self.new.book.history ≡ self.old.book.history ++ added)
             × (length added ≡ result.entries) × Run self.old.book.site self.old.book.state added self.new.book.state
-            × (IsFormed self.old.book.site → AllServed added)) }
+            × (HasWaysForAll self.old.book.site self.old.book.opening → AllServed added)) }
     {
         let _before = self.book.history();
         let mut entries = 0u64;

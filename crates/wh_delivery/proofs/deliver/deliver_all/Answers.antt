@@ -1,9 +1,8 @@
 use Rattle.std.proofs.Common.{◌≡◌, ◌++◌, refl, sym, subst, ap, ◌∙◌, inr, arith}
-use Rattle.wh_points.specs.Formed.{IsFormed}
 use Rattle.wh_core.specs.Steps.{last_clock}
 use Rattle.wh_core.specs.States.{State}
 use Rattle.wh_delivery.specs.Deliveries.{Begins, IsDelivering, IsWhy}
-use Rattle.wh_delivery.proofs.Going.{goes-trans}
+use Rattle.wh_delivery.proofs.Going.{goes-trans, ways-stay}
 use Rattle.wh_delivery.proofs.Rounds.{in-turn-behind, in-turn-still, delivering-none, delivering-more, all-rest, delivered, held, late-within, late, within, bounded, full}
 use Rattle.wh_delivery.proofs.deliver.deliver_all.Goals as goal
 
@@ -46,12 +45,12 @@ returns-in-Ok-true-clause-all_done g c =
     (subst (λ r. Begins now.site now.state r a.0 new.state) c.in-Ok-true.field-0-test a.3)
 
 pub returns-in-Ok-true-clause-done : goal.returns-in-Ok-true-clause-done
-returns-in-Ok-true-clause-done g c off some few =
+returns-in-Ok-true-clause-done g c ways off some few =
     let now = c.loop-ticks.warehouse.book in
     let new = c.begin.new.warehouse.book in
     let a = c.in-Ok-true.ensures.asked in
     delivered c.args.caller c.args.warehouse.now.book now new c.loop-ticks.ticks a.0 c.loop-ticks.invariant.begun c.loop-ticks.invariant.delivering a.1
-    (subst (λ r. Begins now.site now.state r a.0 new.state) c.in-Ok-true.field-0-test a.3) some (inr (off, few))
+    (subst (λ r. Begins now.site now.state r a.0 new.state) c.in-Ok-true.field-0-test a.3) ways some (inr (off, few))
 
 pub returns-in-Ok-true-clause-within : goal.returns-in-Ok-true-clause-within
 returns-in-Ok-true-clause-within g c =
@@ -89,9 +88,9 @@ loop-ticks-preserved g c =
     }
 
 pub returns-in-Err-clause-formed : goal.returns-in-Err-clause-formed
-returns-in-Err-clause-formed g c is formed =
+returns-in-Err-clause-formed g c is ways =
     let d = c.loop-ticks.invariant.delivering in
-    c.in-Err.ensures.formed is (subst (λ s. IsFormed s) (sym d.goes.stays.site) formed)
+    c.in-Err.ensures.formed is (ways-stay c.args.warehouse.now.book c.loop-ticks.warehouse.book d.goes.stays ways)
 
 pub returns-in-Err-tick-clause-formed : goal.returns-in-Err-tick-clause-formed
 returns-in-Err-tick-clause-formed g c is = absurd (c.in-Err-tick.ensures.moving is)

@@ -1,4 +1,4 @@
-use Rattle.std.proofs.Common.{◌≡◌, ◌<◌, length, refl, arith}
+use Rattle.std.proofs.Common.{◌<◌, length, refl, arith}
 use Rattle.wh_token.proofs.Takers.{asked-read, rest-more, rest-over, way-first}
 use Rattle.wh_token.proofs.asking.first_in_way.Goals.{else-not-asked-agent-via-then-not-asked-agent+else-makes_way, else-not-asked-agent-via-else-not-asked-agent}
 use Rattle.wh_token.proofs.asking.first_in_way.Goals as goal

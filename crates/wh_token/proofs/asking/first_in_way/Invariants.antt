@@ -1,7 +1,4 @@
 use Rattle.std.specs.Prelude.{◌≡◌, length}
-use Rattle.wh_core.specs.Steps.{Answers, IsDue}
-use Rattle.wh_event.specs.declared.event.Event.{Event}
-use Rattle.wh_event.specs.declared.reply.Reply.{Reply}
 use Rattle.wh_token.specs.Asking.{IsAmong, AllWouldRest}
 use Rattle.wh_token.proofs.asking.first_in_way.Given as goal
 

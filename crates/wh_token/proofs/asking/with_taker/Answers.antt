@@ -1,6 +1,6 @@
 use Rattle.std.proofs.Common.{◌+◌, ◌<◌, length, refl, subst}
 use Rattle.wh_token.specs.Asking.{IsAmong, IsNearestTaker}
-use Rattle.wh_token.proofs.Takers.{run-unloaded, asked-read, taker-stays, among-more, among-over, among-none, among-first, among-nearer, among-farther}
+use Rattle.wh_token.proofs.Takers.{asked-read, taker-stays, among-more, among-over, among-none, among-first, among-nearer, among-farther}
 use Rattle.wh_token.proofs.asking.with_taker.Goals as goal
 
 pub returns-then-asked-agent-clause-best : goal.returns-then-asked-agent-clause-best
@@ -25,9 +25,8 @@ returns-in_default-best-clause-best c =
     let book = c.args.book.now in
     let asked = c.args.asked.now in
     let agent = c.args.agent in
-    let run = c.history-run.ensures in
     let lt : agent < length asked = rw c.requires.each c.requires.known in
-    among-first book.site book.state asked agent c.in-Some.one (run-unloaded book.site book.opening book.history book.state run.opening run.run)
+    among-first book.site book.state asked agent c.in-Some.one
     (asked-read asked agent _ _ lt c.if-asked-agent.false) c.in-Some.ensures.takes
     (subst (λ b. IsNearestTaker book.site book.state (IsAmong asked agent) b) c.in_default-best.is c.requires.best)
 
@@ -36,9 +35,8 @@ returns-then-is_nearer-clause-best c =
     let book = c.args.book.now in
     let asked = c.args.asked.now in
     let agent = c.args.agent in
-    let run = c.history-run.ensures in
     let lt : agent < length asked = rw c.requires.each c.requires.known in
-    among-nearer book.site book.state asked agent c.in-Some.one c.in-Some-best.other (run-unloaded book.site book.opening book.history book.state run.opening run.run)
+    among-nearer book.site book.state asked agent c.in-Some.one c.in-Some-best.other
     (asked-read asked agent _ _ lt c.if-asked-agent.false) c.in-Some.ensures.takes
     (subst (λ b. IsNearestTaker book.site book.state (IsAmong asked agent) b) c.in-Some-best.is c.requires.best) (c.if-is_nearer.ensures.nearer refl)
 
@@ -47,7 +45,6 @@ returns-else-is_nearer-clause-best c =
     let book = c.args.book.now in
     let asked = c.args.asked.now in
     let agent = c.args.agent in
-    let run = c.history-run.ensures in
-    among-farther book.site book.state asked agent c.in-Some.one c.in-Some-best.other (run-unloaded book.site book.opening book.history book.state run.opening run.run)
+    among-farther book.site book.state asked agent c.in-Some.one c.in-Some-best.other
     c.in-Some.ensures.takes
     (subst (λ b. IsNearestTaker book.site book.state (IsAmong asked agent) b) c.in-Some-best.is c.requires.best) (c.if-is_nearer.ensures.farther refl)

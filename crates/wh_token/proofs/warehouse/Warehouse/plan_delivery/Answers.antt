@@ -1,5 +1,5 @@
 use Rattle.std.proofs.Common.{◌≡◌, ◌<◌, length, ap}
-use Rattle.wh_token.proofs.Duties.{path-task, no_path-task}
+use Rattle.wh_token.proofs.Duties.{path-next, no_path-next}
 use Rattle.wh_planner.specs.declared.planner.PlanFault.{PlanFault}
 use Rattle.wh_token.specs.Houses.{House}
 use Rattle.wh_token.proofs.Fleet.{tied-read}
@@ -36,12 +36,12 @@ pub returns-clause-no_path : goal.returns-clause-no_path
 returns-clause-no_path g c =
     let same_book : c.self.inside.book ≡ c.args.self.now.book = ap (λ (h : House g.row.P.Denot). h.book) c.self.view_is in
     let book = c.args.self.now.book in
-    no_path-task c.plan.result PlanFault.NoPath book.site.grid book.site book.state c.args.agent c.args.task c.tour-tour.result.items (rw same_book at c.tour-tour.ensures.value)
+    no_path-next c.plan.result PlanFault.NoPath book.site book.state c.args.agent c.args.task c.tour-tour.result.items c.requires.next (rw same_book at c.tour-tour.ensures.same)
     (rw (c.grid.ensures, c.setting.ensures, c.timetable.ensures.value, c.as_slice.ensures.value, same_book) at c.plan.ensures.no_path)
 
 pub returns-clause-lawful : goal.returns-clause-lawful
 returns-clause-lawful g c =
     let same_book : c.self.inside.book ≡ c.args.self.now.book = ap (λ (h : House g.row.P.Denot). h.book) c.self.view_is in
     let book = c.args.self.now.book in
-    path-task c.plan.result book.site.grid book.site.layout.nofollow book.site book.state c.args.agent c.args.task c.tour-tour.result.items (rw same_book at c.tour-tour.ensures.value)
+    path-next c.plan.result book.site book.state c.args.agent c.args.task c.tour-tour.result.items c.requires.next (rw same_book at c.tour-tour.ensures.same)
     (rw (c.grid.ensures, c.nofollow.ensures, c.setting.ensures, c.setting-2.ensures, c.timetable.ensures.value, c.as_slice.ensures.value, same_book) at c.plan.ensures.lawful)

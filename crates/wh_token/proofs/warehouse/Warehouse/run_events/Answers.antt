@@ -39,5 +39,5 @@ returns-clause-run g c =
       before.ran.1,
       before.ran.2,
       run,
-      λ formed. run-served book.site book.opening book.history book.state (entries_of before.ran.0) _ opening before_run run formed,
+      λ ways. run-served book.site book.opening book.history book.state (entries_of before.ran.0) _ opening before_run run ways,
     )
