@@ -3,6 +3,8 @@ pub mod PointNames
 pub mod Choices
 pub mod Ways
 pub mod Reachable
+pub mod Staying
+pub mod Taking
 pub mod Reaching
 pub mod Steps
 pub mod Telling

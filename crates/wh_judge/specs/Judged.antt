@@ -1,16 +1,16 @@
 -- what is judged of a log's entries
-use Rattle.std.specs.Prelude.{◌≡◌, ℕ, List, Bool, true, false, Option, Some, None}
+use Rattle.std.specs.Prelude.{◌≡◌, ◌⊎◌, ℕ, List, Bool, true, false, Option, Some, None}
 use Rattle.wh_points.specs.Points.{Site, IsLayout}
+use Rattle.wh_tasks.specs.declared.task.Load.{Load}
 use Rattle.wh_tasks.specs.declared.task.Task.{Task}
+use Rattle.wh_tasks.specs.Tasks.{IsTask, stops_left}
 use Rattle.wh_event.specs.declared.event.Event.{Event}
 use Rattle.wh_event.specs.declared.entry.Entry.{Entry}
-use Rattle.wh_core.specs.Laws.{IsReachedOnTheirWays}
+use Rattle.wh_core.specs.Laws.{IsReached}
 use Rattle.wh_event.specs.declared.reply.Reply.{Reply}
-use Rattle.wh_core.specs.States.{State}
-use Rattle.wh_core.specs.Steps.{Step, other_ends, tour}
-use Rattle.wh_core.specs.Ordinary.{IsNext, NoneIsNext, IsAllowed}
-use Rattle.wh_book.specs.OnTheirWays.{Answers, MakesWay}
-use Rattle.wh_planner.specs.Duties.{Delivers, ParksAt, HasNoClearWay, HasRoute}
+use Rattle.wh_core.specs.States.{State, load_of}
+use Rattle.wh_core.specs.Steps.{Answers, Step, IsNext, NoneIsNext, IsAllowed, IsBerth, IsRestCell, MakesWay, other_ends, tour}
+use Rattle.wh_planner.specs.Duties.{Delivers, ParksAt, IsClearWay, HasNoClearWay, HasRoute}
 use Rattle.wh_grid.specs.declared.cell.Cell.{Cell}
 use Rattle.wh_path.specs.Paths.{end_of}
 
@@ -28,13 +28,25 @@ abbrev pub IsChoice : Site → State → ℕ → Option ℕ → Type 0
 IsChoice site s agent None = NoneIsNext s agent
 IsChoice site s agent (Some n) = (task : Task) × IsNext site s agent n task
 
--- some run leads to the state, in which all are on their ways
+-- some run leads to the state
 abbrev pub IsReachable : Site → State → Type 0
-IsReachable site s = (entries : List Entry) × IsReachedOnTheirWays site entries s
+IsReachable site s = (entries : List Entry) × IsReached site entries s
 
--- the agent has a task before it, and no clear way to deliver it
+-- a clear way leads the agent through the stops that are left of the task of this number
+abbrev pub CanDeliver : Site → State → ℕ → ℕ → Type 0
+CanDeliver site s agent n =
+    (task : Task) × IsTask s.tasks n task × ((way : List Cell) × IsClearWay site.grid s.paths agent (Delivers (tour site agent (stops_left task))) way)
+
+-- the agent may stay where its path ends: it has no task and that is a berth of its, or it is in nobody's way there
+abbrev pub MayStay : Site → State → ℕ → Type 0
+MayStay site s agent =
+    ((load_of s agent ≡ Load.None) × IsBerth site agent (end_of s.paths agent)) ⊎ IsRestCell site s agent (end_of s.paths agent)
+
+-- the agent has a task before it and no clear way to deliver it, and may stay where it is
 abbrev pub LacksDelivery : Site → State → ℕ → Type 0
-LacksDelivery site s agent = (n : ℕ) × (task : Task) × IsNext site s agent n task × HasNoClearWay site.grid s.paths agent (Delivers (tour site agent task.stops))
+LacksDelivery site s agent =
+    (n : ℕ) × (task : Task) × IsNext site s agent n task
+    × HasNoClearWay site.grid s.paths agent (Delivers (tour site agent (stops_left task))) × MayStay site s agent
 
 -- the agent has to make way, and no clear way to a cell where it may
 abbrev pub LacksParking : Site → State → ℕ → Type 0

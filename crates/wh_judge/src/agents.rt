@@ -1,12 +1,14 @@
 //! What is known of an agent.
 #![tactic(auto)]
 
-ghost use Rattle.std.specs.Prelude.{◌≡◌, ◌≢◌, ◌<◌, ◌≤◌, ◌↔◌, false, IsTrue, length};
-ghost use Rattle.wh_path.specs.Paths.{place_of, end_of};
-ghost use Rattle.wh_core.specs.Steps.{IsKnown, IsDue, IsIdleIn, IsDeliveryCell};
+ghost use Rattle.std.specs.Prelude.{◌≡◌, ◌≢◌, ◌⊎◌, ◌<◌, ◌≤◌, ◌↔◌, false, IsTrue, MatchBool, length};
+ghost use Rattle.wh_path.specs.Paths.{end_of};
+ghost use Rattle.wh_core.specs.Steps.{IsKnown, IsBerth, IsDue, IsIdleIn, IsRestCell, IsWanted};
+ghost use Rattle.wh_core.specs.Laws.{AllOnTheirWays};
+ghost use Rattle.wh_judge.specs.Judged.{IsReachable, MayStay};
 
 use crate::instance::Instance;
-use wh_book::{FleetState, ticks_until_idle};
+use wh_book::{FleetState, first_stray, is_stray, may_rest, ticks_until_idle};
 use wh_grid::Cell;
 
 /// Whether the warehouse is open and has an agent of this number.
@@ -43,14 +45,6 @@ pub fn is_moving(instance: &Instance, floor: &FleetState, agent: u32, left: u64)
     left == ticks_until_idle(instance.homes(), floor, agent)
 }
 
-/// Where the agent is.
-pub fn place(floor: &FleetState, agent: u32) -> Cell
-    requires { agent < length floor.now.state.paths }
-    ensures { result ≡ place_of floor.now.state.paths agent }
-{
-    floor.paths()[agent as usize].start()
-}
-
 /// Where the agent's path ends.
 pub fn path_end(floor: &FleetState, agent: u32) -> Cell
     requires { agent < length floor.now.state.paths }
@@ -59,10 +53,39 @@ pub fn path_end(floor: &FleetState, agent: u32) -> Cell
     floor.paths()[agent as usize].end()
 }
 
-/// Whether at the agent's cell an open task is to be delivered.
-pub fn is_in_the_way(floor: &FleetState, agent: u32) -> bool
-    requires { agent < length floor.now.state.paths }
-    ensures { IsTrue result ↔ IsDeliveryCell floor.now.state (place_of floor.now.state.paths agent) }
+/// Whether some agent is not on its way. With `strays` false it is known that none is.
+pub fn has_stray(instance: &Instance, strays: bool, floor: &FleetState) -> bool
+    requires reached { IsReachable instance.now floor.now.state }
+    requires ways { strays ≡ false → AllOnTheirWays instance.now floor.now.state }
+    ensures { result ≡ false → AllOnTheirWays instance.now floor.now.state }
 {
-    floor.tasks().delivers_at(place(floor, agent))
+    if !strays {
+        return false;
+    }
+    first_stray(instance.points(), instance.homes(), floor).is_some()
+}
+
+/// Whether the agent is in nobody's way where its path ends. With `strays` false all agents are on their ways.
+pub fn may_linger(instance: &Instance, strays: bool, floor: &FleetState, agent: u32) -> bool
+    requires reached { IsReachable instance.now floor.now.state }
+    requires ways { strays ≡ false → AllOnTheirWays instance.now floor.now.state }
+    requires known { agent < length floor.now.state.paths }
+    ensures { MatchBool result (IsRestCell instance.now floor.now.state agent (end_of floor.now.state.paths agent))
+        (IsWanted instance.now floor.now.state (end_of floor.now.state.paths agent) ⊎ (¬ IsBerth instance.now agent (end_of floor.now.state.paths agent))) }
+{
+    may_rest(instance.points(), instance.homes(), strays, floor, agent)
+}
+
+/// Whether the agent may stay where its path ends, though it has no way to its next task.
+pub fn may_stay(instance: &Instance, strays: bool, floor: &FleetState, agent: u32) -> bool
+    requires reached { IsReachable instance.now floor.now.state }
+    requires ways { strays ≡ false → AllOnTheirWays instance.now floor.now.state }
+    requires home { agent < length instance.now.layout.agents }
+    requires known { agent < length floor.now.state.paths }
+    ensures { IsTrue result ↔ MayStay instance.now floor.now.state agent }
+{
+    if !is_stray(instance.points(), instance.homes(), floor, agent) {
+        return true;
+    }
+    may_linger(instance, strays, floor, agent)
 }

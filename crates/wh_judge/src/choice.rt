@@ -3,14 +3,14 @@
 
 ghost use Rattle.std.specs.Prelude.{◌≡◌, ◌<◌, ◌↔◌, IsTrue, length};
 ghost use Rattle.wh_tasks.specs.declared.task.Task.{Task as Job};
-ghost use Rattle.wh_core.specs.Ordinary.{IsNext, NoneIsNext};
+ghost use Rattle.wh_core.specs.Steps.{IsNext, NoneIsNext};
 ghost use Rattle.wh_judge.specs.Judged.{IsChoice};
 
 use crate::instance::Instance;
-use wh_book::{FleetState, nearest};
+use wh_book::{FleetState, next_task};
 use wh_field::LazyField;
 
-/// The task that the agent takes, if there is one. The field is filled no further than to the nearest task.
+/// The task that the agent takes, if there is one: its own, or else the nearest. The field is filled no further than to that one.
 pub fn next(
     instance: &Instance,
     floor: &FleetState,
@@ -23,7 +23,7 @@ pub fn next(
     ensures grid { near.new.grid ≡ instance.now.grid }
 {
     let _grid = instance.grid();
-    nearest(floor, agent, near)
+    next_task(floor, agent, near)
 }
 
 /// Whether it is the task of this number that the agent takes.

@@ -134,22 +134,23 @@ pub fn is_course(
     free_of_others(nofollow, paths, agent, path)
 }
 
-/// Whether the agent may adopt the path to go through these stops.
+/// Whether the agent may adopt the path to go through these stops, with so many legs.
 pub fn may_deliver(
     grid: &Grid,
     nofollow: bool,
     paths: &Timetable,
     agent: usize,
+    legs: u64,
     stops: &[Cell],
     path: &TimedPath,
 ) -> bool
     requires known { agent < length paths.now }
     requires some { 1 ≤ length stops.now }
-    requires few { length stops.now ≤ 9 }
-    ensures { IsTrue result ↔ IsLawful grid.now nofollow paths.now agent (length stops.now) (Delivers stops.now) path.now }
+    requires legs { legs ≤ 9 }
+    ensures { IsTrue result ↔ IsLawful grid.now nofollow paths.now agent legs (Delivers stops.now) path.now }
 {
     if !goes_through(path, stops) {
         return false;
     }
-    is_course(grid, nofollow, paths, agent, stops.len() as u64, path)
+    is_course(grid, nofollow, paths, agent, legs, path)
 }

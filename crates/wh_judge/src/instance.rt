@@ -1,16 +1,20 @@
 //! What a log is judged over.
 #![tactic(auto)]
 
-ghost use Rattle.std.specs.Prelude.{◌≡◌, ◌<◌, ◌≤◌, ◌↔◌, length, IsTrue, IfOk, false};
+ghost use Rattle.std.specs.Prelude.{◌≡◌, ℕ, ◌<◌, ◌≤◌, ◌↔◌, List, length, IsTrue, IfOk, false};
+ghost use Rattle.wh_grid.specs.declared.cell.Cell.{Cell as Place};
+ghost use Rattle.wh_tasks.specs.Tasks.{visited, stops_left};
+ghost use Rattle.wh_planner.specs.Duties.{Delivers};
 ghost use Rattle.wh_core.specs.Steps.{tour};
 ghost use Rattle.wh_points.specs.Points.{IsLayout, IsPoint, starts, home_of};
 
 use arrayvec::ArrayVec;
 use std::alloc::{AllocError, Global};
 use std::marker::Model;
-use wh_book::{starts_of, tour_of};
+use wh_book::{starts_of, tour_left};
 use wh_grid::{Cell, Grid};
 use wh_points::Points;
+use wh_tasks::Task;
 use wh_text::Name;
 
 /// The grid, the points that were read over it, and whether paths go on home.
@@ -93,16 +97,28 @@ impl<'a> Instance<'a> {
         self.points.cell(number)
     }
 
-    /// Where the agent goes for these stops: through them, and then home if paths go on home. It takes no memory.
-    pub fn tour(&self, agent: u32, stops: &[Cell]) -> ArrayVec<Cell, 9>
+    /// Where the agent goes for the task: through the stops that are left, and then home if paths go on home. Where that is one cell it
+    /// is told twice, which asks for the same paths. It takes no memory.
+    pub fn tour(&self, agent: u32, task: &Task) -> ArrayVec<Cell, 9>
         requires known { agent < length self.now.layout.agents }
-        requires two { 2 ≤ length stops.now }
-        requires eight { length stops.now ≤ 8 }
-        ensures value { result.items ≡ tour self.now agent stops.now }
+        requires left { visited task.now < length task.now.stops }
+        requires two { 2 ≤ length task.now.stops }
+        requires eight { length task.now.stops ≤ 8 }
+        ensures same { (path : List Place) → Delivers result.items path ↔ Delivers (tour self.now agent (stops_left task.now)) path }
         ensures two { 2 ≤ length result.items }
         ensures nine { length result.items ≤ 9 }
     {
-        tour_of(self.homes, self.home(agent), stops)
+        tour_left(self.homes, self.home(agent), task)
+    }
+
+    /// How many legs a path through these stops has: one to each, and one home if paths go on home.
+    pub fn legs(&self, stops: &[Cell]) -> u64
+        requires { length stops.now ≤ 8 }
+        ensures value { (agent : ℕ) → result ≡ length (tour self.now agent stops.now) }
+        ensures nine { result ≤ 9 }
+    {
+        let stops = stops.len() as u64;
+        if self.homes { stops + 1 } else { stops }
     }
 
     /// The points.

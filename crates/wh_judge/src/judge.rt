@@ -6,9 +6,10 @@ ghost use Rattle.wh_points.specs.Points.{IsLayout};
 ghost use Rattle.wh_core.specs.States.{State, opened};
 ghost use Rattle.wh_core.specs.Steps.{Step, last_clock};
 ghost use Rattle.wh_book.specs.Columns.{state_in};
-ghost use Rattle.wh_core.specs.Laws.{IsBeginningOnTheirWays};
+ghost use Rattle.wh_core.specs.Laws.{IsBeginning, AllOnTheirWays};
 ghost use Rattle.wh_judge.specs.Judged.{Decides, IsReachable, IsStep};
 
+use crate::agents::has_stray;
 use crate::instance::Instance;
 use crate::plain::{close, replace, tick};
 use crate::refusals::refuses;
@@ -21,16 +22,19 @@ use wh_event::{Entry, Event, Reply};
 use wh_field::LazyField;
 use wh_grid::Cell;
 
-/// Whether the event may be answered so; if so, it is done. Each arm is a line of the definition.
+/// Whether the event may be answered so; if so, it is done. Each arm is a line of the definition. With `strays` false all agents are on
+/// their ways.
 fn answer(
     alloc: Global,
     instance: &Instance,
+    strays: bool,
     floor: &mut FleetState,
     near: &mut LazyField,
     event: Event,
     reply: Reply,
 ) -> Result<bool, AllocError>
     requires reached { IsReachable instance.now floor.old.state }
+    requires ways { strays ≡ false → AllOnTheirWays instance.now floor.old.state }
     requires grid { near.old.grid ≡ instance.now.grid }
     ensures answer { IfOk result (Decides instance.now floor.old.state reply event floor.new.state) }
     ensures kept { IfOk result (λ b. b ≡ false → floor.new.state ≡ floor.old.state) }
@@ -39,7 +43,7 @@ fn answer(
 {
     match (reply, event) {
         (Reply::Refused(refusal), event) => {
-            refuses(alloc, instance, floor, near, &refusal, &event)
+            refuses(alloc, instance, strays, floor, near, &refusal, &event)
         }
         (Reply::Accepted { task }, Event::Submit { client, stops }) => {
             accept(alloc, instance, floor, client, stops.stops(), task)
@@ -47,9 +51,11 @@ fn answer(
         (Reply::Took { task, path }, Event::Request { agent }) => {
             take(instance, floor, near, agent, task, path)
         }
-        (Reply::Rested, Event::Request { agent }) => { Ok(rest(instance, floor, near, agent)) }
+        (Reply::Rested, Event::Request { agent }) => {
+            Ok(rest(instance, strays, floor, near, agent))
+        }
         (Reply::Parked { point, path }, Event::Request { agent }) => {
-            park(instance, floor, near, agent, &point, path)
+            park(alloc, instance, strays, floor, near, agent, &point, path)
         }
         (
             Reply::Clock {
@@ -78,6 +84,7 @@ fn opening(
     requires seats { length slots.items ≡ length instance.now.layout.agents }
     ensures state { IfOk result (λ floor. floor.state ≡ opened instance.now.layout clock slots.items) }
     ensures reached { IfOk result (λ floor. IsReachable instance.now floor.state) }
+    ensures ways { IfOk result (λ floor. AllOnTheirWays instance.now floor.state) }
 {
     let _agents = instance.agents();
     let starts = instance.starts(alloc)?;
@@ -86,23 +93,26 @@ fn opening(
 }
 
 /// The warehouse as a log tells it: the instance, and the state after the entries so far. Beside the state it keeps one
-/// distance field, for its questions.
+/// distance field, for its questions, and whether strays may be left: once all agents are on their ways they stay so.
 #[derive(Drop)]
 pub struct Judge<'a> {
     instance: Instance<'a>,
     floor: FleetState,
     near: LazyField,
+    /// Whether strays may be left: agents that are not on their ways.
+    strays: bool,
 }
 
 impl<'a> Model for Judge<'a> {
-    ghost use Rattle.std.specs.Prelude.{◌≡◌};
+    ghost use Rattle.std.specs.Prelude.{◌≡◌, false};
+    ghost use Rattle.wh_core.specs.Laws.{AllOnTheirWays};
     ghost use Rattle.wh_judge.specs.Judged.{Judged, IsReachable};
 
     ghost Value = { Judged };
 
     ghost view = { λ j. record { site = j.instance; state = j.floor.state } };
 
-    ghost invariant = { λ j. IsReachable j.instance j.floor.state × (j.near.grid ≡ j.instance.grid) };
+    ghost invariant = { λ j. IsReachable j.instance j.floor.state × (j.near.grid ≡ j.instance.grid) × (j.strays ≡ false → AllOnTheirWays j.instance j.floor.state) };
 }
 
 impl<'a> Judge<'a> {
@@ -126,27 +136,30 @@ impl<'a> Judge<'a> {
             instance,
             floor,
             near,
+            strays: false,
         })
     }
 
-    /// The warehouse that begins with the state of these parts, which stay as they are, before any entry. Fails when out of
-    /// memory.
+    /// The warehouse that begins with the state of these parts, which stay as they are, before any entry. Agents may be strays there.
+    /// Fails when out of memory.
     pub fn begin(
         alloc: Global,
         instance: Instance<'a>,
         parts: &StateParts,
     ) -> Result<Judge<'a>, AllocError>
-        requires { IsBeginningOnTheirWays instance (state_in parts.now) }
+        requires { IsBeginning instance (state_in parts.now) }
         ensures { IfOk result (λ judge. judge ≡ record { site = instance.entry; state = state_in parts.now }) }
     {
         let _agents = instance.agents();
         let grid = instance.grid();
         let near = LazyField::from(alloc, grid, Cell { x: 0, y: 0 })?;
         let floor = FleetState::of(alloc, grid, parts)?;
+        let strays = has_stray(&instance, true, &floor);
         Ok(Judge {
             instance,
             floor,
             near,
+            strays,
         })
     }
 
@@ -158,6 +171,7 @@ impl<'a> Judge<'a> {
         ensures err { OnErr result (self.new ≡ self.old) }
     {
         self.floor = opening(alloc, &self.instance, clock, slots)?;
+        self.strays = false;
         Ok(())
     }
 
@@ -195,13 +209,16 @@ impl<'a> Judge<'a> {
         ensures site { self.new.site ≡ self.old.site }
     {
         let Entry { event, reply, .. } = entry;
-        answer(
+        let is_step = answer(
             alloc,
             &self.instance,
+            self.strays,
             &mut self.floor,
             &mut self.near,
             event,
             reply,
-        )
+        )?;
+        self.strays = has_stray(&self.instance, self.strays, &self.floor);
+        Ok(is_step)
     }
 }

@@ -1,68 +1,132 @@
 //! Whether an agent has no clear way for what it is to do.
 #![tactic(auto)]
 
-ghost use Rattle.std.specs.Prelude.{◌≡◌, ◌⊎◌, ◌<◌, ◌↔◌, IsTrue, IfOk, length};
-ghost use Rattle.wh_core.specs.Ordinary.{NoneIsNext};
-ghost use Rattle.wh_book.specs.OnTheirWays.{MakesWay, IsOutOfTheWay};
-ghost use Rattle.wh_judge.specs.Judged.{LacksDelivery, LacksParking, CanPark};
+ghost use Rattle.std.specs.Prelude.{◌≡◌, ◌⊎◌, ◌<◌, ◌↔◌, false, IsTrue, IfOk, length};
+ghost use Rattle.wh_path.specs.Paths.{end_of};
+ghost use Rattle.wh_tasks.specs.declared.task.Task.{Task as Job};
+ghost use Rattle.wh_core.specs.Steps.{IsNext, IsRestCell, IsShutIn, MakesWay, NoneIsNext};
+ghost use Rattle.wh_core.specs.Laws.{AllOnTheirWays};
+ghost use Rattle.wh_judge.specs.Judged.{CanDeliver, CanPark, IsReachable, LacksDelivery, LacksParking};
 
-use crate::agents::{is_in_the_way, path_end};
+use crate::agents::{may_linger, may_stay, path_end};
 use crate::choice::{next, none_is_next};
 use crate::instance::Instance;
 use crate::routes::{has_route_to_any, has_routes};
 use std::alloc::{AllocError, Global};
-use wh_book::{FleetState, free_points};
+use wh_book::{FleetState, free_points, is_stray};
 use wh_field::LazyField;
 use wh_planner::other_ends;
 
 /// Whether the agent has nothing to do, and is in nobody's way.
-pub fn may_rest(instance: &Instance, floor: &FleetState, near: &mut LazyField, agent: u32) -> bool
+pub fn has_rest(
+    instance: &Instance,
+    strays: bool,
+    floor: &FleetState,
+    near: &mut LazyField,
+    agent: u32,
+) -> bool
+    requires reached { IsReachable instance.now floor.now.state }
+    requires ways { strays ≡ false → AllOnTheirWays instance.now floor.now.state }
     requires known { agent < length floor.now.state.paths }
     requires grid { near.old.grid ≡ instance.now.grid }
-    ensures rests { IsTrue result ↔ (NoneIsNext floor.now.state agent × IsOutOfTheWay instance.now floor.now.state agent) }
+    ensures rests { IsTrue result ↔ (NoneIsNext floor.now.state agent × IsRestCell instance.now floor.now.state agent (end_of floor.now.state.paths agent)) }
     ensures grid { near.new.grid ≡ instance.now.grid }
 {
-    if !instance.homes() && is_in_the_way(floor, agent) {
+    if !may_linger(instance, strays, floor, agent) {
         return false;
     }
     none_is_next(instance, floor, near, agent)
 }
 
-/// Whether the agent has to make way.
-pub fn makes_way(instance: &Instance, floor: &FleetState, near: &mut LazyField, agent: u32) -> bool
-    requires known { agent < length floor.now.state.paths }
-    requires grid { near.old.grid ≡ instance.now.grid }
-    ensures way { IsTrue result ↔ MakesWay instance.now floor.now.state agent }
-    ensures grid { near.new.grid ≡ instance.now.grid }
-{
-    if instance.homes() || !is_in_the_way(floor, agent) {
-        return false;
-    }
-    none_is_next(instance, floor, near, agent)
-}
-
-/// Whether the agent has a task before it and no clear way to deliver it.
-fn lacks_delivery(
+/// Whether a clear way leads the agent through the stops that are left of its next task.
+fn has_way(
     alloc: Global,
     instance: &Instance,
+    floor: &FleetState,
+    agent: u32,
+    n: u32,
+) -> Result<bool, AllocError>
+    requires reached { IsReachable instance.now floor.now.state }
+    requires known { agent < length floor.now.state.paths }
+    requires home { agent < length instance.now.layout.agents }
+    requires next { (task : Job) × IsNext instance.now floor.now.state agent n task }
+    ensures { IfOk result (λ b. IsTrue b ↔ CanDeliver instance.now floor.now.state agent n) }
+{
+    let tour = instance.tour(agent, floor.tasks().task(n));
+    let avoid = other_ends(alloc, floor.paths(), agent as usize)?;
+    let from = path_end(floor, agent);
+    has_routes(alloc, instance.grid(), &avoid, from, tour.as_slice())
+}
+
+/// Whether the agent is a stray that has no clear way to do its next task, which has this number.
+fn is_shut_in(
+    alloc: Global,
+    instance: &Instance,
+    floor: &FleetState,
+    agent: u32,
+    n: u32,
+) -> Result<bool, AllocError>
+    requires reached { IsReachable instance.now floor.now.state }
+    requires known { agent < length floor.now.state.paths }
+    requires home { agent < length instance.now.layout.agents }
+    requires next { (task : Job) × IsNext instance.now floor.now.state agent n task }
+    ensures { IfOk result (λ b. IsTrue b ↔ IsShutIn instance.now floor.now.state agent) }
+{
+    if !is_stray(instance.points(), instance.homes(), floor, agent) {
+        return Ok(false);
+    }
+    Ok(!has_way(alloc, instance, floor, agent, n)?)
+}
+
+/// Whether the agent has to make way. It takes memory where the agent is a stray that has something to do.
+pub fn makes_way(
+    alloc: Global,
+    instance: &Instance,
+    strays: bool,
     floor: &FleetState,
     near: &mut LazyField,
     agent: u32,
 ) -> Result<bool, AllocError>
+    requires reached { IsReachable instance.now floor.now.state }
+    requires ways { strays ≡ false → AllOnTheirWays instance.now floor.now.state }
+    requires known { agent < length floor.now.state.paths }
+    requires home { agent < length instance.now.layout.agents }
+    requires grid { near.old.grid ≡ instance.now.grid }
+    ensures way { IfOk result (λ b. IsTrue b ↔ MakesWay instance.now floor.now.state agent) }
+    ensures grid { near.new.grid ≡ instance.now.grid }
+{
+    if may_linger(instance, strays, floor, agent) {
+        return Ok(false);
+    }
+    match next(instance, floor, near, agent) {
+        None => Ok(true),
+        Some(n) => is_shut_in(alloc, instance, floor, agent, n),
+    }
+}
+
+/// Whether the agent has a task before it and no clear way to deliver it, and may stay where it is.
+fn lacks_delivery(
+    alloc: Global,
+    instance: &Instance,
+    strays: bool,
+    floor: &FleetState,
+    near: &mut LazyField,
+    agent: u32,
+) -> Result<bool, AllocError>
+    requires reached { IsReachable instance.now floor.now.state }
+    requires ways { strays ≡ false → AllOnTheirWays instance.now floor.now.state }
     requires known { agent < length floor.now.state.paths }
     requires home { agent < length instance.now.layout.agents }
     requires grid { near.old.grid ≡ instance.now.grid }
     ensures lacks { IfOk result (λ b. IsTrue b ↔ LacksDelivery instance.now floor.now.state agent) }
     ensures grid { near.new.grid ≡ instance.now.grid }
 {
+    if !may_stay(instance, strays, floor, agent) {
+        return Ok(false);
+    }
     match next(instance, floor, near, agent) {
         None => Ok(false),
-        Some(n) => {
-            let tour = instance.tour(agent, floor.tasks().task(n).stops.as_slice());
-            let avoid = other_ends(alloc, floor.paths(), agent as usize)?;
-            let from = path_end(floor, agent);
-            Ok(!has_routes(alloc, instance.grid(), &avoid, from, tour.as_slice())?)
-        }
+        Some(n) => Ok(!has_way(alloc, instance, floor, agent, n)?),
     }
 }
 
@@ -70,14 +134,24 @@ fn lacks_delivery(
 fn can_park(
     alloc: Global,
     instance: &Instance,
+    strays: bool,
     floor: &FleetState,
     agent: u32,
 ) -> Result<bool, AllocError>
+    requires reached { IsReachable instance.now floor.now.state }
+    requires ways { strays ≡ false → AllOnTheirWays instance.now floor.now.state }
     requires known { agent < length floor.now.state.paths }
     ensures { IfOk result (λ b. IsTrue b ↔ CanPark instance.now floor.now.state agent) }
 {
     let avoid = other_ends(alloc, floor.paths(), agent as usize)?;
-    let allowed = free_points(alloc, instance.points(), floor, agent)?;
+    let allowed = free_points(
+        alloc,
+        instance.points(),
+        instance.homes(),
+        strays,
+        floor,
+        agent,
+    )?;
     let leads = has_route_to_any(
         alloc,
         instance.grid(),
@@ -92,37 +166,44 @@ fn can_park(
 fn lacks_parking(
     alloc: Global,
     instance: &Instance,
+    strays: bool,
     floor: &FleetState,
     near: &mut LazyField,
     agent: u32,
 ) -> Result<bool, AllocError>
+    requires reached { IsReachable instance.now floor.now.state }
+    requires ways { strays ≡ false → AllOnTheirWays instance.now floor.now.state }
     requires known { agent < length floor.now.state.paths }
+    requires home { agent < length instance.now.layout.agents }
     requires grid { near.old.grid ≡ instance.now.grid }
     ensures lacks { IfOk result (λ b. IsTrue b ↔ LacksParking instance.now floor.now.state agent) }
     ensures grid { near.new.grid ≡ instance.now.grid }
 {
-    if !makes_way(instance, floor, near, agent) {
+    if !makes_way(alloc, instance, strays, floor, near, agent)? {
         return Ok(false);
     }
-    Ok(!can_park(alloc, instance, floor, agent)?)
+    Ok(!can_park(alloc, instance, strays, floor, agent)?)
 }
 
 /// Whether the agent lacks a clear way for what it is to do.
 pub fn lacks_way(
     alloc: Global,
     instance: &Instance,
+    strays: bool,
     floor: &FleetState,
     near: &mut LazyField,
     agent: u32,
 ) -> Result<bool, AllocError>
+    requires reached { IsReachable instance.now floor.now.state }
+    requires ways { strays ≡ false → AllOnTheirWays instance.now floor.now.state }
     requires known { agent < length floor.now.state.paths }
     requires home { agent < length instance.now.layout.agents }
     requires grid { near.old.grid ≡ instance.now.grid }
     ensures lacks { IfOk result (λ b. IsTrue b ↔ (LacksDelivery instance.now floor.now.state agent ⊎ LacksParking instance.now floor.now.state agent)) }
     ensures grid { near.new.grid ≡ instance.now.grid }
 {
-    if lacks_delivery(alloc, instance, floor, near, agent)? {
+    if lacks_delivery(alloc, instance, strays, floor, near, agent)? {
         return Ok(true);
     }
-    lacks_parking(alloc, instance, floor, near, agent)
+    lacks_parking(alloc, instance, strays, floor, near, agent)
 }

@@ -1,8 +1,9 @@
 //! When each refusal may be given.
 #![tactic(auto)]
 
-ghost use Rattle.std.specs.Prelude.{◌≡◌, ◌↔◌, IsTrue, IfOk};
-ghost use Rattle.wh_book.specs.OnTheirWays.{Refuses};
+ghost use Rattle.std.specs.Prelude.{◌≡◌, ◌↔◌, false, IsTrue, IfOk};
+ghost use Rattle.wh_core.specs.Steps.{Refuses};
+ghost use Rattle.wh_core.specs.Laws.{AllOnTheirWays};
 ghost use Rattle.wh_judge.specs.Judged.{IsReachable};
 
 use crate::agents::{is_known, is_moving, is_stranger};
@@ -20,12 +21,14 @@ use wh_field::LazyField;
 pub fn refuses(
     alloc: Global,
     instance: &Instance,
+    strays: bool,
     floor: &FleetState,
     near: &mut LazyField,
     refusal: &Refusal,
     event: &Event,
 ) -> Result<bool, AllocError>
     requires reached { IsReachable instance.now floor.now.state }
+    requires ways { strays ≡ false → AllOnTheirWays instance.now floor.now.state }
     requires grid { near.old.grid ≡ instance.now.grid }
     ensures refuses { IfOk result (λ b. IsTrue b ↔ Refuses instance.now floor.now.state refusal.now event.now) }
     ensures grid { near.new.grid ≡ instance.now.grid }
@@ -48,7 +51,7 @@ pub fn refuses(
             Ok(is_moving(instance, floor, *agent, *left))
         }
         (Refusal::NoPath, Event::Request { agent }) => {
-            has_no_path(alloc, instance, floor, near, *agent)
+            has_no_path(alloc, instance, strays, floor, near, *agent)
         }
         (Refusal::ClockFull, Event::Tick) => { Ok(!floor.closed() && floor.clock() == LAST_CLOCK) }
         (Refusal::UnknownAgent(told), Event::Replace { agent, .. }) => {
