@@ -13,8 +13,8 @@ use Rattle.wh_event.specs.declared.event.Spare.{Spare}
 use Rattle.wh_event.specs.declared.reply.Reply.{Reply}
 use Rattle.wh_core.specs.States.{State}
 use Rattle.wh_core.specs.Steps.{Answers, Step, Run}
-use Rattle.wh_core.specs.Laws.{IsBeginning, IsBeginningOnTheirWays, IsReached}
-use Rattle.wh_core.proofs.Sound.{begun-reached, sound-reached, ways-reached}
+use Rattle.wh_core.specs.Laws.{IsBeginning, IsReached}
+use Rattle.wh_core.proofs.Sound.{sound-reached}
 use Rattle.wh_core.proofs.Traffic.{none_share}
 use Rattle.wh_book.specs.Drafts.{Seen}
 use Rattle.wh_drive.specs.declared.vehicle.Vehicle.{Vehicle}
@@ -165,7 +165,7 @@ differ-beginning book begins i j a below within e =
     none_share book.site [] s i j reached (record { first = l'; second = l; differ = λ same. omega arith })
     (sym (at-place s i l') ∙ get_or_default (places s) i origin a (omega arith) ∙ e ∙ get_or_default (places s) j a origin within ∙ at-place s j l)
 
-pub walked-start : (book : Seen) (ahead : ℕ) (steps : List ℕ) (row : List Cell) (paths : List (List Cell)) (o : Order) → IsBeginningOnTheirWays book.site book.opening →
+pub walked-start : (book : Seen) (ahead : ℕ) (steps : List ℕ) (row : List Cell) (paths : List (List Cell)) (o : Order) → IsBeginning book.site book.opening →
     Run book.site book.opening book.history book.state → length steps ≡ length book.state.paths → row ≡ places book.opening → paths ≡ book.opening.paths →
     ((nofollow : Bool) → Represents o (opened nofollow ahead row)) → Walked book ahead steps [] book.history paths o
 walked-start book ahead steps row paths o begins run all row_is paths_are represents =
@@ -177,8 +177,9 @@ walked-start book ahead steps row paths o begins run all row_is paths_are repres
     let size-now : length o.vehicles ≡ length row = ap (λ (vs : List Vehicle). length vs) vehicles ∙ length-map row (λ _. idle) in
     let size-first : length (places book.opening) ≡ length book.opening.paths = size book.opening in
     let size-same : length row ≡ length (places book.opening) = ap (λ (cs : List Cell). length cs) row_is in
-    let seats = begins.beginning.sound.seats.paths in
-    let seats-now = (sound-reached book.site book.history book.state (begun-reached book.site book.opening book.history book.state begins run).reached).seats.paths in
+    let seats = begins.sound.seats.paths in
+    let reached : IsReached book.site book.history book.state = record { opening = book.opening; is_beginning = begins; run = run } in
+    let seats-now = (sound-reached book.site book.history book.state reached).seats.paths in
     record {
       state = book.opening;
       drive = d;
@@ -277,9 +278,9 @@ walked-tick book ahead steps before entry after paths new row o then w d goes cl
       stand = stand;
     }
 
-pub walked-all : (book : Seen) (ahead : ℕ) (steps : List ℕ) (paths : List (List Cell)) (o : Order) → IsBeginningOnTheirWays book.site book.opening →
-    Run book.site book.opening book.history book.state → 1 ≤ ahead → Walked book ahead steps book.history [] paths o → Stand book ahead steps o
-walked-all book ahead steps paths o begins run some w =
+pub walked-all : (book : Seen) (ahead : ℕ) (steps : List ℕ) (paths : List (List Cell)) (o : Order) → IsBeginning book.site book.opening →
+    1 ≤ ahead → Walked book ahead steps book.history [] paths o → Stand book ahead steps o
+walked-all book ahead steps paths o begins some w =
     let same : book.state ≡ w.state = w.rest in
     let happened : MayHaveHappened book ahead book.history (record { state = book.state; drive = w.drive }) =
     subst (λ (s : State). MayHaveHappened book ahead book.history (record { state = s; drive = w.drive })) (sym same) w.happened in
@@ -287,9 +288,8 @@ walked-all book ahead steps paths o begins run some w =
       drive = w.drive;
       represents = w.represents;
       happened = happened;
-      carried = carried-out book ahead book.history (record { state = book.state; drive = w.drive }) begins.beginning some happened;
+      carried = carried-out book ahead book.history (record { state = book.state; drive = w.drive }) begins some happened;
       time = w.time ∙ ap (λ (s : State). s.clock) (sym same);
-      ways = ways-reached book.site book.history book.state (begun-reached book.site book.opening book.history book.state begins run);
       stand = subst (λ n. StandBy n steps w.drive.vehicles) w.represents.time (subst (λ (vs : List Vehicle). StandBy o.clock steps vs) w.represents.vehicles w.stand);
     }
 

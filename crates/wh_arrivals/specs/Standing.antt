@@ -5,7 +5,7 @@ use Rattle.wh_path.specs.Paths.{advanced}
 use Rattle.wh_event.specs.declared.entry.Entry.{Entry}
 use Rattle.wh_event.specs.declared.event.Event.{Event}
 use Rattle.wh_event.specs.declared.reply.Reply.{Reply}
-use Rattle.wh_core.specs.Laws.{AllOnTheirWays, IsBeginning}
+use Rattle.wh_core.specs.Laws.{IsBeginning}
 use Rattle.wh_book.specs.Drafts.{Seen}
 use Rattle.wh_drive.specs.Drives.{Drive, clock, reached, opened}
 use Rattle.wh_order.specs.Orders.{Order, Represents}
@@ -21,15 +21,14 @@ pub record MayHaveHappened (book : Seen) (ahead : ℕ) (entries : List Entry) (f
   pub all : AllHappen book.site (record { state = book.opening; drive = opened book.site.layout.nofollow ahead (places book.opening) }) happenings fleet
   pub entries_are : entries_of happenings ≡ entries
 
--- The order is that of a drive that carries out the run of the book, in which no agent was stopped: its rows are those of the
--- history's ticks, and its clock began with the run. Each vehicle stands at its step, or at the clock's if that is before, and was told nothing beyond.
+-- The order is that of a drive that carries out the run of the book: its rows are those of the history's ticks, and its clock
+-- began with the run. Each vehicle stands at its step, or at the clock's if that is before, and was told nothing beyond.
 pub record Stand (book : Seen) (ahead : ℕ) (steps : List ℕ) (order : Order) : Type 0 where
   pub drive : Drive
   pub represents : Represents order drive
   pub happened : MayHaveHappened book ahead book.history (record { state = book.state; drive = drive })
   pub carried : IsCarriedOut book.site book.history (record { state = book.state; drive = drive })
   pub time : clock drive + book.opening.clock ≡ book.state.clock
-  pub ways : AllOnTheirWays book.site book.state
   pub stand : StandBy (clock drive) steps drive.vehicles
 
 -- At a time of the run the agent's step is not before the clock's, and the plan had another at the clock's cell before,

@@ -1,7 +1,6 @@
 pub mod Texts
 pub mod Members
 pub mod Watching
-pub mod Ways
 pub mod Taking
 pub mod Staying
 pub mod Happening

@@ -10,7 +10,7 @@ use Rattle.wh_grid.specs.declared.cell.Cell.{Cell}
 use Rattle.wh_path.specs.Paths.{cell_at, place_of}
 use Rattle.wh_path.proofs.AtLemmas.{origin}
 use Rattle.wh_core.specs.States.{State}
-use Rattle.wh_core.specs.Laws.{IsBeginningOnTheirWays, IsReached as IsReachedState}
+use Rattle.wh_core.specs.Laws.{IsBeginning, IsReached as IsReachedState}
 use Rattle.wh_core.proofs.Sound.{kept-of}
 use Rattle.wh_core.proofs.Traffic.{none_share}
 use Rattle.wh_core.specs.Steps.{Run}
@@ -65,25 +65,25 @@ quiet_opened nofollow ahead starts = record {
 pub at_opening : (book : Seen) → book.history ≡ [] → Run book.site book.opening book.history book.state → book.state ≡ book.opening
 at_opening book none run = subst (λ es. Run book.site book.opening es book.state) none run
 
-opening_fleet : (book : Seen) (ahead : ℕ) → IsBeginningOnTheirWays book.site book.state → 1 ≤ ahead →
+opening_fleet : (book : Seen) (ahead : ℕ) → IsBeginning book.site book.state → 1 ≤ ahead →
     IsOpening book.site (record { state = book.state; drive = opened book.site.layout.nofollow ahead (places book.state) })
 opening_fleet book ahead begins some = record {
   ahead = ahead;
   some = some;
-  state = begins.beginning;
+  state = begins;
   drive = refl;
 }
 
 -- the state of a book with no history is one from which it may begin
-pub begins_there : (book : Seen) → IsBeginningOnTheirWays book.site book.opening → book.state ≡ book.opening → IsBeginningOnTheirWays book.site book.state
-begins_there book begins same = subst (λ (s : State). IsBeginningOnTheirWays book.site s) (sym same) begins
+pub begins_there : (book : Seen) → IsBeginning book.site book.opening → book.state ≡ book.opening → IsBeginning book.site book.state
+begins_there book begins same = subst (λ (s : State). IsBeginning book.site s) (sym same) begins
 
 -- no two agents begin at one cell
-pub differ_opened : (book : Seen) → IsBeginningOnTheirWays book.site book.state → AllPairs (λ a b. a ≢ b) (places book.state)
+pub differ_opened : (book : Seen) → IsBeginning book.site book.state → AllPairs (λ a b. a ≢ b) (places book.state)
 differ_opened book begins =
     let s = book.state in
     let cells = size s in
-    let reached : IsReachedState book.site [] s = record { opening = s; is_beginning = begins.beginning; run = refl } in
+    let reached : IsReachedState book.site [] s = record { opening = s; is_beginning = begins; run = refl } in
     λ i j a below within e.
     let l : j < length s.paths = omega arith in
     let l' : i < length s.paths = omega arith in
@@ -91,11 +91,11 @@ differ_opened book begins =
     (sym (at-place s i l') ∙ get_or_default (places s) i origin a (omega arith) ∙ e ∙ get_or_default (places s) j a origin within ∙ at-place s j l)
 
 -- of the tasks that agents have none was told
-module _ (book : Seen) (before : List Pending) (begins : IsBeginningOnTheirWays book.site book.state) (untold : AreWatched book.state NoneIsTold before) where
+module _ (book : Seen) (before : List Pending) (begins : IsBeginning book.site book.state) (untold : AreWatched book.state NoneIsTold before) where
   pub stand_opened : (ahead agents : ℕ) → agents ≡ length book.state.paths → (p : Pending) → Contains before p → IsStanding book.state.tasks agents p
   stand_opened ahead agents count =
       standing book.opening.clock book.state (opened book.site.layout.nofollow ahead (places book.state)) NoneIsTold before untold agents count
-      (kept-of book.site book.state begins.beginning.sound).working (λ v told. absurd told)
+      (kept-of book.site book.state begins.sound).working (λ v told. absurd told)
 
   pub manned_opened : (crew : Crew) (ahead : ℕ) → book.state ≡ book.opening → book.history ≡ [] → 1 ≤ ahead →
       crew.pending ≡ left_after book.opening.clock book.state.tasks crew.order.vehicles before →
@@ -103,14 +103,13 @@ module _ (book : Seen) (before : List Pending) (begins : IsBeginningOnTheirWays 
   manned_opened crew ahead same none some left r =
       let d = opened book.site.layout.nofollow ahead (places book.state) in
       let opening = book.opening.clock in
-      let sound = begins.beginning.sound in
+      let sound = begins.sound in
       let left_is : crew.pending ≡ left_after opening book.state.tasks d.vehicles before = left ∙ ap (λ (vs : List Vehicle). left_after opening book.state.tasks vs before) r.vehicles in
       record {
         in_step = record {
           represents = r;
           carried = subst (λ es. IsCarriedOut book.site es (record { state = book.state; drive = d })) (sym none) (carried-opening book.site _ (opening_fleet book ahead begins some));
           time = (let here : book.state.clock ≡ book.opening.clock = ap (λ (s : State). s.clock) same in omega arith);
-          ways = begins.on_their_ways;
         };
         quiet = quiet_opened book.site.layout.nofollow ahead (places book.state);
         watched = subst (λ (ps : List Pending). AreWatched book.state (HasMade opening (record { state = book.state; drive = d })) ps) (sym left_is)

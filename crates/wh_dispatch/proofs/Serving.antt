@@ -1,5 +1,5 @@
 -- one line that is served
-use Rattle.std.proofs.Common.{◌≡◌, ◌≢◌, ◌⊎◌, ℕ, ◌+◌, ◌∙◌, List, [], ◌∷◌, ◌++◌, length, Option, Some, None, Result, Ok, Err, inl, inr, sym, subst, refl, ap, arith, append-nil, Bool}
+use Rattle.std.proofs.Common.{◌≡◌, ◌≢◌, ◌⊎◌, ℕ, ◌+◌, ◌<◌, ◌∙◌, List, [], ◌∷◌, ◌++◌, length, Option, Some, None, Result, Ok, Err, inl, inr, sym, subst, refl, ap, arith, append-nil, Bool}
 use Rattle.std.specs.Prelude.{codes}
 use Rattle.std.specs.List.{AllPairs}
 use Rattle.std.specs.Io.KnownBytes.{Appends}
@@ -38,7 +38,7 @@ use Rattle.wh_dispatch.specs.declared.script.DispatchFault.{DispatchFault}
 use Rattle.wh_dispatch.specs.declared.script.DispatchFault.TheVariants.{Unwritten, NoMemory}
 use Rattle.wh_dispatch.specs.declared.visits.Pending.{Pending}
 use Rattle.wh_dispatch.specs.Crews.{Crew, IsInStep, IsManned, AreWatched}
-use Rattle.wh_dispatch.specs.Visiting.{due_visits, left_after, kept_first, SomeStanding}
+use Rattle.wh_dispatch.specs.Visiting.{due_visits, left_after, taken_first, added_to, kept_first, SomeStanding}
 use Rattle.wh_dispatch.specs.Lines as lines
 use Rattle.wh_dispatch.specs.Lines.{Depot, Heard, Reported, Asked, AsksToGoOn, AllKeepUp, gone_on, TakesLine, InTurn, AreMadeNow, go_lines, visit_lines}
 use Rattle.wh_dispatch.specs.Scripts.{TellsAll, TellsSome, Serves, Begins, ServesFrom, BeginsFrom, SomeManned, Hears, HearsSome}
@@ -46,15 +46,14 @@ use Rattle.wh_dispatch.proofs.Late.{late_one}
 use Rattle.wh_dispatch.proofs.Texts.{text_one, all_then, until_then, unwritten}
 use Rattle.wh_dispatch.proofs.Happening.{fleet, Leads, go_leads, settle_goes, report_leads, ran_leads, asked_few, happens_join, entries_join, clock_kept}
 use Rattle.wh_dispatch.proofs.Steps.{Turns, stays, goes, turns, ticks_now}
-use Rattle.wh_core.specs.Laws.{AllOnTheirWays, IsTimed}
-use Rattle.wh_core.proofs.Sound.{beginning-reached, kept-reached, sound-reached}
+use Rattle.wh_core.specs.Laws.{IsTimed}
+use Rattle.wh_core.proofs.Sound.{kept-reached, sound-reached}
 use Rattle.wh_core.proofs.Work.{IsWorking}
 use Rattle.wh_tasks.specs.declared.task.Task.{Task}
-use Rattle.wh_tasks.specs.Tasks.{IsTask}
+use Rattle.wh_tasks.specs.Tasks.{IsTask, visited}
 use Rattle.std.proofs.lemmas.Option.{same_Some}
 use Rattle.wh_dispatch.proofs.Members.{none_in, pairs_nil}
-use Rattle.wh_dispatch.proofs.Watching.{visit, watched_as, each_due, due_in_turn, all_due, watched_after, standing}
-use Rattle.wh_dispatch.proofs.Ways.{unloaded, ways_happen}
+use Rattle.wh_dispatch.proofs.Watching.{visit, watched_as, made_tells, each_due, due_in_turn, all_due, watched_after, standing}
 use Rattle.wh_dispatch.proofs.Staying.{made_stays}
 use Rattle.wh_dispatch.proofs.Taking.{takes_ran, before_ran, none_by_tick, watched_on}
 
@@ -85,7 +84,6 @@ pub goes_in_step : (old new : Seen) (o p : Order) (d e : Drive) (entries : List 
 goes_in_step old new o p d e entries r l g rep =
     let at_old : IsCarriedOut old.site (old.history ++ entries_of l.happenings) (fleet new.state e) =
     carried old.site old.history (fleet old.state d) l.happenings (fleet new.state e) r.carried l.all in
-    let begins = beginning-reached old.site old.history old.state r.carried.state in
     let grown : IsCarriedOut old.site new.history (fleet new.state e) =
     subst (λ es. IsCarriedOut old.site es (fleet new.state e)) (ap (λ es. old.history ++ es) l.entries_are ∙ sym g.history) at_old in
     record {
@@ -93,8 +91,6 @@ goes_in_step old new o p d e entries r l g rep =
       carried = subst (λ (site : Site). IsCarriedOut site new.history (fleet new.state e)) (sym g.site) grown;
       time = subst (λ (s : State). clock e + s.clock ≡ new.state.clock) (sym g.opening)
           (clock_kept old.site (fleet old.state d) l.happenings (fleet new.state e) old.opening.clock l.all r.represents.sound.plan.some r.time);
-      ways = subst (λ (site : Site). AllOnTheirWays site new.state) (sym g.site)
-          (ways_happen old.site (fleet old.state d) l.happenings (fleet new.state e) begins.layout begins.sound r.ways l.all);
     }
 
 -- ---- reports
@@ -328,7 +324,6 @@ module _ {X : Type 0} (fits : X → Floor → Bool) (count : X → ℕ) (asker :
           (record { sound = r.sound; ahead = r.ahead; time = r.time; vehicles = r.vehicles; left = r.left; steps = r.steps; latest = r.latest });
       carried = m.in_step.carried;
       time = m.in_step.time;
-      ways = m.in_step.ways;
     };
     quiet = m.quiet;
     watched = subst (λ (ps : List Pending). AreWatched book.state (HasMade book.opening.clock (fleet book.state d)) ps) (sym kept) m.watched;
@@ -340,6 +335,10 @@ module _ {X : Type 0} (fits : X → Floor → Bool) (count : X → ℕ) (asker :
       let same : m.task ≡ task = same_Some m.task task (sym m.is_task ∙ is) in
       let clash : Some agent ≡ None = sym m.agent_is ∙ ap (λ (t : Task). t.agent) same ∙ is_open in
       cc
+
+  -- and of one that somebody has those that it has
+  made_within : (book : Seen) (d : Drive) (n agent number : ℕ) (task : Task) → IsTask book.state.tasks n task → HasMade book.opening.clock (fleet book.state d) (visit agent n number) → number < visited task
+  made_within book d n agent number task is m = (made_tells book.opening.clock book.state d (visit agent n number) task m is).within
 
   module _ (c : Command) (old : Seen) (spares : List X) (o : Crew) where
     abbrev line_of : Heard
@@ -354,11 +353,10 @@ module _ {X : Type 0} (fits : X → Floor → Bool) (count : X → ℕ) (asker :
 
       -- those that were kept and the one that was taken are kept
       watched_by : (replies : List (List ℕ)) (g : Gives fits count asker.caller (c ∷ []) (answers (told_text asker.form) (Ok (Some c))) old spares new rest replies) (d : Drive) → IsManned old o d →
-          AreWatched new.state (HasMade old.opening.clock (fleet old.state d)) (o.pending ++ kept_first (runs.entries_of g.outcomes) new.state.tasks)
+          AreWatched new.state (HasMade old.opening.clock (fleet old.state d)) (o.pending ++ kept_first o.pending (runs.entries_of g.outcomes) new.state.tasks)
       watched_by replies g d m =
-          watched_on old.state new.state (HasMade old.opening.clock (fleet old.state d)) o.pending (kept_first (runs.entries_of g.outcomes) new.state.tasks) m.watched
-          (takes_ran fits count asker.caller old.site c g.outcomes old.state spares new.state rest
-          (unloaded old.site old.state (beginning-reached old.site old.history old.state m.in_step.carried.state) m.in_step.ways) g.ran) (open_untold old d)
+          watched_on old.state new.state (HasMade old.opening.clock (fleet old.state d)) o.pending (kept_first o.pending (runs.entries_of g.outcomes) new.state.tasks) m.watched
+          (takes_ran old.site old.state (HasMade old.opening.clock (fleet old.state d)) o.pending m.watched (made_within old d) fits count asker.caller c g.outcomes spares new.state rest g.ran) (open_untold old d)
 
       -- its reply was not written to the end
       pub from_unwritten : ((d : Drive) → IsManned old o d → AsksToGoOn old.state (Ok (Some c)) → AllKeepUp d bound) →
@@ -382,15 +380,15 @@ module _ {X : Type 0} (fits : X → Floor → Bool) (count : X → ℕ) (asker :
         stays_here still = stays_by (turns fits count asker.caller old.site c s.gives.outcomes old.state spares new.state rest s.gives.ran) still
 
         -- the clock stays, and no task is taken
-        pub from_still : (p : Crew) → p.order ≡ o.order → p.pending ≡ o.pending → kept_first (runs.entries_of s.gives.outcomes) new.state.tasks ≡ [] → Stays →
+        pub from_still : (p : Crew) → p.order ≡ o.order → p.pending ≡ o.pending → taken_first (runs.entries_of s.gives.outcomes) new.state.tasks ≡ None → Stays →
             ServesFrom fits count asker bound line_of old spares o new rest p a b
         from_still p same kept none still d m =
             let e = gone_on s.gives.outcomes new.state d in
             let there = stays_here still in
             let here : e ≡ d = there.1 d in
             let before = before_ran fits count asker.caller old.site c s.gives.outcomes old.state spares new.state rest s.gives.ran there.0 none in
-            let pending : o.pending ++ kept_first (runs.entries_of s.gives.outcomes) new.state.tasks ≡ p.pending =
-            ap (λ (ps : List Pending). o.pending ++ ps) none ∙ append-nil o.pending ∙ sym kept in
+            let pending : o.pending ++ kept_first o.pending (runs.entries_of s.gives.outcomes) new.state.tasks ≡ p.pending =
+            ap (λ (x : Option Pending). o.pending ++ added_to o.pending x) none ∙ append-nil o.pending ∙ sym kept in
             serves_still line_of old spares o new rest d m p e s.replies a b (obeyed d e s.replies (in_time d m) s.gives refl) here
             (subst (λ (q : Order). Represents q d) (sym same) m.in_step.represents)
             (subst (λ (ps : List Pending). AreWatched new.state (HasMade old.opening.clock (fleet old.state d)) ps) pending (watched_by s.replies s.gives d m))
@@ -398,7 +396,7 @@ module _ {X : Type 0} (fits : X → Floor → Bool) (count : X → ℕ) (asker :
             record { task = now.task; is_task = before v.task v.agent now.task now.is_task now.agent_is; agent_is = now.agent_is; made = now.made }))
             s.appends
 
-        module _ (q : Crew) (kept : q.pending ≡ o.pending ++ kept_first (runs.entries_of s.gives.outcomes) new.state.tasks)
+        module _ (q : Crew) (kept : q.pending ≡ o.pending ++ kept_first o.pending (runs.entries_of s.gives.outcomes) new.state.tasks)
             (rep : (d : Drive) → IsManned old o d → Represents q.order (gone_on s.gives.outcomes new.state d)) where
           watched_here : (d : Drive) → IsManned old o d → AreWatched new.state (HasMade old.opening.clock (fleet old.state d)) q.pending
           watched_here d m = subst (λ (ps : List Pending). AreWatched new.state (HasMade old.opening.clock (fleet old.state d)) ps) (sym kept) (watched_by s.replies s.gives d m)
@@ -430,7 +428,7 @@ module _ {X : Type 0} (fits : X → Floor → Bool) (count : X → ℕ) (asker :
             subst (λ (e : Drive). Represents q.order e) (sym ((stays_here still).1 d)) (subst (λ (r : Order). Represents r d) (sym same) m.in_step.represents)
 
         -- a tick takes none
-        pub none_asked : AsksToGoOn old.state (Ok (Some c)) → kept_first (runs.entries_of s.gives.outcomes) new.state.tasks ≡ []
+        pub none_asked : AsksToGoOn old.state (Ok (Some c)) → taken_first (runs.entries_of s.gives.outcomes) new.state.tasks ≡ None
         none_asked asks = none_by_tick fits count asker.caller old.site c s.gives.outcomes old.state spares new.state rest s.gives.ran
             (same_Some c commands.Tick (ap (λ (r : Result (Option Command) LineFault). value_of r) asks.tick))
           where
@@ -440,8 +438,8 @@ module _ {X : Type 0} (fits : X → Floor → Bool) (count : X → ℕ) (asker :
 
         module _ (q : Crew) (same : q.pending ≡ o.pending) (asks : AsksToGoOn old.state (Ok (Some c))) (moved : new.state.clock ≢ old.state.clock)
             (tick : (d : Drive) → Represents o.order d → MayTick d (places new.state) → Represents q.order (ticked (places new.state) d)) where
-          pub ticked_kept : q.pending ≡ o.pending ++ kept_first (runs.entries_of s.gives.outcomes) new.state.tasks
-          ticked_kept = same ∙ sym (append-nil o.pending) ∙ ap (λ (ps : List Pending). o.pending ++ ps) (sym (none_asked asks))
+          pub ticked_kept : q.pending ≡ o.pending ++ kept_first o.pending (runs.entries_of s.gives.outcomes) new.state.tasks
+          ticked_kept = same ∙ sym (append-nil o.pending) ∙ ap (λ (x : Option Pending). o.pending ++ added_to o.pending x) (sym (none_asked asks))
 
           pub ticked_rep : (d : Drive) → IsManned old o d → Represents q.order (gone_on s.gives.outcomes new.state d)
           ticked_rep d m =

@@ -11,7 +11,6 @@ use Rattle.wh_drive.specs.Drives.{Drive, clock}
 use Rattle.wh_order.specs.Orders.{Order, Represents}
 use Rattle.wh_order.specs.Settling.{IsQuiet}
 use Rattle.wh_order.specs.declared.visit.Told.{Told}
-use Rattle.wh_core.specs.Laws.{AllOnTheirWays}
 use Rattle.wh_vehicles.specs.Plans.{IsCarriedOut}
 use Rattle.wh_vehicles.specs.Visits.{Visit, HasMade}
 use Rattle.wh_dispatch.specs.declared.visits.Pending.{Pending}
@@ -31,13 +30,11 @@ pub record Crew : Type 0 where
 abbrev pub is_under_way : Vehicle → Bool
 is_under_way v = nat_lt v.reached v.told
 
--- The order is the drive's, by which the run of the book is carried out; the plan began with the run, and no agent of it was
--- stopped.
+-- the order is the drive's, by which the run of the book is carried out, and the plan began with the run
 pub record IsInStep (book : Seen) (order : Order) (d : Drive) : Type 0 where
   pub represents : Represents order d
   pub carried : IsCarriedOut book.site book.history (record { state = book.state; drive = d })
   pub time : clock d + book.opening.clock ≡ book.state.clock
-  pub ways : AllOnTheirWays book.site book.state
 
 -- The first n visits of the task were told, and no others.
 pub record IsWatched (s : State) (IsTold : Visit → Type 0) (p : Pending) : Type 0 where

@@ -1,6 +1,6 @@
 -- which visits are due to be told, and what is kept of tasks
-use Rattle.std.specs.Prelude.{ℕ, ◌+◌, ◌-◌, ◌<◌, ◌≤◌, List, [], ◌∷◌, Bool, Option, Some, None, cond, nat_lt, nat_le, length, map, drop, flat_map, slice_get, Contains}
-use Rattle.std.specs.List.{range_with_len, filter}
+use Rattle.std.specs.Prelude.{ℕ, ◌+◌, ◌-◌, ◌<◌, ◌≤◌, ◌==◌, List, [], ◌∷◌, Bool, Option, Some, None, cond, nat_lt, nat_le, length, map, drop, flat_map, slice_get, Contains}
+use Rattle.std.specs.List.{range_with_len, filter, list_any}
 use Prim.Native.Nat.{suc}
 use Rattle.wh_tasks.specs.declared.task.Task.{Task}
 use Rattle.wh_tasks.specs.Tasks.{IsTask}
@@ -71,18 +71,28 @@ taken_in (Reply.Took n path) (Event.Request agent) = Some (record { agent = agen
 taken_in reply event = None
 
 -- what is taken, with its stops
-abbrev pub with_stops : List Task → Option Pending → List Pending
-with_stops tasks None = []
-with_stops tasks (Some p) = record p { stops = stops_of (slice_get tasks p.task) } ∷ []
+abbrev pub with_stops : List Task → Option Pending → Option Pending
+with_stops tasks None = None
+with_stops tasks (Some p) = Some (record p { stops = stops_of (slice_get tasks p.task) })
 
--- the task that an agent took by an event, to be kept
-abbrev pub kept_by : Reply → Event → List Task → List Pending
-kept_by reply event tasks = with_stops tasks (taken_in reply event)
+-- the task that an agent took by the first of these entries, with its stops
+abbrev pub taken_first : List Entry → List Task → Option Pending
+taken_first [] tasks = None
+taken_first (entry ∷ entries) tasks = with_stops tasks (taken_in entry.reply entry.event)
 
--- the same of the first of these entries
-abbrev pub kept_first : List Entry → List Task → List Pending
-kept_first [] tasks = []
-kept_first (entry ∷ entries) tasks = kept_by entry.reply entry.event tasks
+-- one of those that are kept is the task of this number
+abbrev pub has_task : List Pending → ℕ → Bool
+has_task pending n = list_any (λ p. p.task == n) pending
+
+-- What is kept besides these once a task was taken: that task, unless it is one of them. (An agent that goes on with its own
+-- task takes it again, and some of its visits may have been told.)
+abbrev pub added_to : List Pending → Option Pending → List Pending
+added_to pending None = []
+added_to pending (Some p) = cond (has_task pending p.task) [] (p ∷ [])
+
+-- the same of the task that was taken by the first of these entries
+abbrev pub kept_first : List Pending → List Entry → List Task → List Pending
+kept_first pending entries tasks = added_to pending (taken_first entries tasks)
 
 -- the tasks that are kept stand, for some drive of the vehicles
 pub record SomeStanding (book : Seen) (crew : Crew) : Type 0 where

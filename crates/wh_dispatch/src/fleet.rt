@@ -1,6 +1,6 @@
 //! The vehicles of a warehouse.
 
-ghost use Rattle.std.specs.Prelude.{◌≡◌, ◌≢◌, ℕ, ◌+◌, ◌^◌, ◌<◌, ◌≤◌, ◌++◌, ◌∷◌, [], List, Option, OnOk, OnErr, IfOk, IfErr, IfSome, IfNone, Bool, cond, length, true, false, Contains};
+ghost use Rattle.std.specs.Prelude.{◌≡◌, ◌≢◌, ℕ, ◌+◌, ◌^◌, ◌<◌, ◌≤◌, ◌++◌, ◌∷◌, [], List, Option, None, OnOk, OnErr, IfOk, IfErr, IfSome, IfNone, Bool, cond, length, true, false, Contains};
 ghost use Rattle.std.specs.Io.KnownBytes.{Appends};
 ghost use Rattle.wh_lines.specs.Output.{WritesFront};
 ghost use Rattle.wh_event.specs.declared.entry.Entry.{Entry as Line};
@@ -15,10 +15,10 @@ ghost use Rattle.wh_dispatch.specs.declared.visits.Pending.{Pending as Watched};
 ghost use Rattle.wh_dispatch.specs.Crews.{AreWatched, Crew, IsManned, is_under_way};
 ghost use Rattle.wh_dispatch.specs.Lines.{visit_lines};
 ghost use Rattle.wh_dispatch.specs.SettingOut.{NoneIsTold, untold_of};
-ghost use Rattle.wh_dispatch.specs.Visiting.{IsStanding, taken_in, kept_first, listed, due_visits, left_after};
+ghost use Rattle.wh_dispatch.specs.Visiting.{IsStanding, taken_in, taken_first, kept_first, listed, due_visits, left_after};
 
 use crate::script::DispatchFault;
-use crate::visits::{Pending, keep_left, tell_due};
+use crate::visits::{Pending, keep_left, keep_new, tell_due};
 use std::alloc::{AllocError, Global};
 use std::io::Write;
 use std::marker::Model;
@@ -153,9 +153,9 @@ fn taken_last(history: &[Entry]) -> Option<Pending>
     }
 }
 
-/// The task that an agent took by the last of the warehouse's entries, to be kept, if there are more than before.
+/// The task that an agent took by the last of the warehouse's entries, if there are more than before.
 fn taken_behind<P: Plans>(warehouse: &Warehouse<P>, before: usize) -> Option<Pending>
-    ensures { (front more : List Line) → warehouse.now.book.history ≡ front ++ more → length front ≡ before → length more ≤ 1 → kept_first more warehouse.now.book.state.tasks ≡ listed result }
+    ensures { (front more : List Line) → warehouse.now.book.history ≡ front ++ more → length front ≡ before → length more ≤ 1 → taken_first more warehouse.now.book.state.tasks ≡ result }
 {
     let history = warehouse.history();
     if history.len() <= before {
@@ -329,17 +329,17 @@ impl Vehicles {
     }
 
     /// The task is kept that an agent took by the last of the warehouse's entries, if there are more than before. Whether one
-    /// is.
+    /// was taken.
     pub(crate) fn keep_taken<P: Plans>(&mut self, warehouse: &Warehouse<P>, before: usize) -> bool
         requires room { length self.old.pending < self.old.room }
-        ensures pending { (front more : List Line) → warehouse.now.book.history ≡ front ++ more → length front ≡ before → length more ≤ 1 → self.new.pending ≡ self.old.pending ++ kept_first more warehouse.now.book.state.tasks }
+        ensures pending { (front more : List Line) → warehouse.now.book.history ≡ front ++ more → length front ≡ before → length more ≤ 1 → self.new.pending ≡ self.old.pending ++ kept_first self.old.pending more warehouse.now.book.state.tasks }
         ensures same { self.new ≡ record self.old { pending = self.new.pending } }
-        ensures none { result ≡ false → self.new.pending ≡ self.old.pending }
+        ensures none { result ≡ false → (front more : List Line) → warehouse.now.book.history ≡ front ++ more → length front ≡ before → length more ≤ 1 → taken_first more warehouse.now.book.state.tasks ≡ None }
     {
         match taken_behind(warehouse, before) {
             None => false,
             Some(one) => {
-                self.pending.push_reserved(one);
+                keep_new(&mut self.pending, one);
                 true
             }
         }

@@ -1,12 +1,12 @@
 //! The visits that vehicles have made of their tasks, each told once.
 
-ghost use Rattle.std.specs.Prelude.{◌≡◌, ℕ, ◌+◌, ◌-◌, ◌≤◌, length, map, drop, IfErr, OnErr, OnOk, Contains};
+ghost use Rattle.std.specs.Prelude.{◌≡◌, ℕ, ◌+◌, ◌-◌, ◌<◌, ◌≤◌, ◌++◌, Some, length, map, drop, vec_capacity, IfErr, OnErr, OnOk, Contains};
 ghost use Rattle.std.specs.Io.KnownBytes.{Appends};
 ghost use Rattle.wh_lines.specs.Output.{WritesFront};
 ghost use Rattle.wh_replay.specs.Answers.{text_of};
 ghost use Rattle.wh_dispatch.specs.declared.visits.Pending.{Pending as Watched};
 ghost use Rattle.wh_dispatch.specs.Lines.{visit_lines};
-ghost use Rattle.wh_dispatch.specs.Visiting.{IsStanding, made_first, made_of as made_in, visits_from, due_visits, told_of, left_after};
+ghost use Rattle.wh_dispatch.specs.Visiting.{IsStanding, made_first, made_of as made_in, visits_from, due_visits, told_of, left_after, has_task, added_to};
 
 use crate::script::DispatchFault;
 use crate::telling::tell_notice;
@@ -117,4 +117,22 @@ pub(crate) fn keep_left<P: Plans>(
 {
     mark_told(pending, warehouse, order);
     pending.retain(|one| one.told < one.stops);
+}
+
+/// Whether the task of this number is one of those that are kept.
+fn is_kept(pending: &[Pending], task: u32) -> bool
+    ensures { result ≡ has_task pending.now task }
+{
+    pending.iter().any(|one| one.task == task)
+}
+
+/// Keeps a task that an agent took, unless it is kept already: an agent that goes on with its own takes it again.
+pub(crate) fn keep_new(pending: &mut Vec<Pending>, one: Pending)
+    requires room { length pending.old.items < vec_capacity pending.old }
+    ensures kept { pending.new.items ≡ pending.old.items ++ added_to pending.old.items (Some one) }
+    ensures room { vec_capacity pending.new ≡ vec_capacity pending.old }
+{
+    if !is_kept(pending.as_slice(), one.task) {
+        pending.push_reserved(one);
+    }
 }

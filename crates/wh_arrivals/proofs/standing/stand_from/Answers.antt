@@ -15,7 +15,7 @@ open-requires-clause-differ c =
     let book = c.args.book.now in
     let row_is : c.as_slice-2.result.now ≡ places book.opening =
     c.as_slice-2.ensures.value ∙ c.in_ok-write_row.ensures ∙ ap (map (λ (path : List Cell). at path 0)) (c.as_slice.ensures.value ∙ c.requires.paths) in
-    subst (λ (row : List Cell). AllPairs (λ a b. a ≢ b) row) (sym row_is) (differ-beginning book c.history-history.ensures.opening.beginning)
+    subst (λ (row : List Cell). AllPairs (λ a b. a ≢ b) row) (sym row_is) (differ-beginning book c.history-history.ensures.opening)
 
 pub loop-entry-init : goal.loop-entry-init
 loop-entry-init c =
@@ -35,7 +35,7 @@ go_on-requires-clause-fits c =
     let w = walked-at c.args.book.now c.args.ahead c.args.steps.now h k entry c.loop-entry.paths.items c.loop-entry.order lt c.entry-item.is c.loop-entry.invariant in
     let row = c.as_slice-then-is_tick-2.result.now in
     let ready = due c.args.book.now c.args.ahead c.args.steps.now (take k h) entry (drop (k + 1) h) c.loop-entry.paths.items c.follow.new.paths.items row c.loop-entry.order
-    c.history-history.ensures.opening.beginning c.requires.some w c.in_ok-follow.ensures (sym c.is_tick.ensures ∙ c.if-is_tick.true)
+    c.history-history.ensures.opening c.requires.some w c.in_ok-follow.ensures (sym c.is_tick.ensures ∙ c.if-is_tick.true)
     (c.as_slice-then-is_tick-2.ensures.value ∙ c.in_ok-write_row-2.ensures ∙ ap (map (λ (path : List Cell). at path 0)) c.as_slice-then-is_tick.ensures.value) in
     ready.fits
 
@@ -48,7 +48,7 @@ go_on-requires-clause-all c =
     let w = walked-at c.args.book.now c.args.ahead c.args.steps.now h k entry c.loop-entry.paths.items c.loop-entry.order lt c.entry-item.is c.loop-entry.invariant in
     let row = c.as_slice-then-is_tick-2.result.now in
     let ready = due c.args.book.now c.args.ahead c.args.steps.now (take k h) entry (drop (k + 1) h) c.loop-entry.paths.items c.follow.new.paths.items row c.loop-entry.order
-    c.history-history.ensures.opening.beginning c.requires.some w c.in_ok-follow.ensures (sym c.is_tick.ensures ∙ c.if-is_tick.true)
+    c.history-history.ensures.opening c.requires.some w c.in_ok-follow.ensures (sym c.is_tick.ensures ∙ c.if-is_tick.true)
     (c.as_slice-then-is_tick-2.ensures.value ∙ c.in_ok-write_row-2.ensures ∙ ap (map (λ (path : List Cell). at path 0)) c.as_slice-then-is_tick.ensures.value) in
     ready.all
 
@@ -61,7 +61,7 @@ go_on-requires-clause-differ c =
     let w = walked-at c.args.book.now c.args.ahead c.args.steps.now h k entry c.loop-entry.paths.items c.loop-entry.order lt c.entry-item.is c.loop-entry.invariant in
     let row = c.as_slice-then-is_tick-2.result.now in
     let ready = due c.args.book.now c.args.ahead c.args.steps.now (take k h) entry (drop (k + 1) h) c.loop-entry.paths.items c.follow.new.paths.items row c.loop-entry.order
-    c.history-history.ensures.opening.beginning c.requires.some w c.in_ok-follow.ensures (sym c.is_tick.ensures ∙ c.if-is_tick.true)
+    c.history-history.ensures.opening c.requires.some w c.in_ok-follow.ensures (sym c.is_tick.ensures ∙ c.if-is_tick.true)
     (c.as_slice-then-is_tick-2.ensures.value ∙ c.in_ok-write_row-2.ensures ∙ ap (map (λ (path : List Cell). at path 0)) c.as_slice-then-is_tick.ensures.value) in
     ready.may.differ
 
@@ -75,7 +75,7 @@ returns-in_err-go_on-clause-err c =
     let w = walked-at c.args.book.now c.args.ahead c.args.steps.now h k entry c.loop-entry.paths.items c.loop-entry.order lt c.entry-item.is c.loop-entry.invariant in
     let row = c.as_slice-then-is_tick-2.result.now in
     let ready = due c.args.book.now c.args.ahead c.args.steps.now (take k h) entry (drop (k + 1) h) c.loop-entry.paths.items c.follow.new.paths.items row c.loop-entry.order
-    c.history-history.ensures.opening.beginning c.requires.some w c.in_ok-follow.ensures (sym c.is_tick.ensures ∙ c.if-is_tick.true)
+    c.history-history.ensures.opening c.requires.some w c.in_ok-follow.ensures (sym c.is_tick.ensures ∙ c.if-is_tick.true)
     (c.as_slice-then-is_tick-2.ensures.value ∙ c.in_ok-write_row-2.ensures ∙ ap (map (λ (path : List Cell). at path 0)) c.as_slice-then-is_tick.ensures.value) in
     let book = c.args.book.now in
     rw came.1 (tells-fault book c.args.ahead c.args.steps.now came.0 (λ agent is rule.
@@ -97,7 +97,7 @@ loop-entry-preserved c =
       | then-is_tick+in_ok-write_row-2+in_ok-go_on b ↦
           let row = b.as_slice-then-is_tick-2.result.now in
           let ready = due book c.args.ahead steps (take k h) entry (drop (k + 1) h) c.loop-entry.paths.items paths row c.loop-entry.order
-          c.history-history.ensures.opening.beginning c.requires.some w c.in_ok-follow.ensures (sym c.is_tick.ensures ∙ b.if-is_tick.true)
+          c.history-history.ensures.opening c.requires.some w c.in_ok-follow.ensures (sym c.is_tick.ensures ∙ b.if-is_tick.true)
           (b.as_slice-then-is_tick-2.ensures.value ∙ b.in_ok-write_row-2.ensures ∙ ap (map (λ (path : List Cell). at path 0)) b.as_slice-then-is_tick.ensures.value) in
           let then = b.go_on.new.order in
           subst (λ (o : Order). Walked book c.args.ahead steps (take k h ++ entry ∷ []) (drop (k + 1) h) paths o) (sym b.order-is)
@@ -112,5 +112,5 @@ pub returns-clause-ok : goal.returns-clause-ok
 returns-clause-ok c =
     let book = c.args.book.now in
     let steps = c.args.steps.now in
-    walked-all book c.args.ahead steps c.loop-entry.paths.items c.loop-entry.order c.history-history.ensures.opening c.history-history.ensures.run c.requires.some
+    walked-all book c.args.ahead steps c.loop-entry.paths.items c.loop-entry.order c.history-history.ensures.opening c.requires.some
     (walked-end book c.args.ahead steps c.history-history.result.now c.loop-entry.entry-index c.loop-entry.paths.items c.loop-entry.order c.history-history.ensures.value c.loop-entry-test.false c.loop-entry.invariant)

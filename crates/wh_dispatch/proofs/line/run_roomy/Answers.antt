@@ -3,7 +3,7 @@ use Rattle.wh_event.specs.declared.entry.Entry.{Entry}
 use Rattle.wh_dispatch.specs.Crews.{Crew}
 use Rattle.wh_dispatch.proofs.Texts.{on_ok, if_err}
 use Rattle.wh_dispatch.proofs.Serving.{from_unwritten, from_still, from_gone, from_gone_some, stand_gone, still_rep}
-use Rattle.wh_dispatch.proofs.Taking.{few_entries, none_added}
+use Rattle.wh_dispatch.proofs.Taking.{few_entries, kept_same}
 use Rattle.wh_dispatch.proofs.line.run_roomy.Goals as goal
 
 pub returns-in-Err-clause-err : goal.returns-in-Err-clause-err
@@ -17,10 +17,10 @@ returns-else-keep_taken-clause-ok g c =
     let few = few_entries g.P.Plans.fits_map g.P.Plans.slot_count c.args.asker.caller c.args.warehouse.now.book.site c.args.command.now gives.outcomes _ _ _ _ gives.ran in
     let kept = c.keep_taken.ensures.pending c.args.warehouse.now.book.history _ gives.history (ap (λ (es : List Entry). length es) (sym c.history-before.ensures.value)) few in
     let order = ap (λ (x : Crew). x.order) c.keep_taken.ensures.same in
-    let stays = c.keep_taken.ensures.none c.if-keep_taken.false in
+    let none = c.keep_taken.ensures.none c.if-keep_taken.false c.args.warehouse.now.book.history _ gives.history (ap (λ (es : List Entry). length es) (sym c.history-before.ensures.value)) few in
     from_still g.P.Plans.fits_map g.P.Plans.slot_count c.args.asker c.args.vehicles.now.bound c.args.command.now c.args.warehouse.now.book c.args.spares.now.items c.args.vehicles.now
     c.obey.new.warehouse.book c.obey.new.spares.items (g.W.Write.contents c.args.writer.now) (g.W.Write.contents c.obey.new.writer) c.in-Ok.field-0
-    (λ d m asks. absurd (c.requires.still asks)) c.in-Ok.ensures.ok c.keep_taken.new.self order stays (none_added c.args.vehicles.now.pending _ (sym kept ∙ stays)) (inr c.requires.still)
+    (λ d m asks. absurd (c.requires.still asks)) c.in-Ok.ensures.ok c.keep_taken.new.self order (kept_same c.args.vehicles.now.pending _ _ kept none) none (inr c.requires.still)
 
 pub go_on-requires : goal.go_on-requires
 go_on-requires g c = record {
