@@ -23,7 +23,7 @@ use Rattle.wh_continue.specs.Before.{Before}
 use Rattle.wh_continue.specs.Starting.{GoesOnIn, IsUnbegun, IsWhyNoStart, IsWhyNotOn, StartsAt, StartsByFile, before_of, first_lines}
 use Rattle.wh_continue.specs.declared.starting.Start.{Start}
 use Rattle.wh_continue.specs.declared.starting.StartFault.{StartFault}
-use Rattle.wh_continue.specs.declared.starting.StartFault.TheVariants.{Bad, Flawed, Stray, Unread, NoMemory}
+use Rattle.wh_continue.specs.declared.starting.StartFault.TheVariants.{Bad, Flawed, Unread, NoMemory}
 use Rattle.wh_continue.proofs.Closing.{told_in}
 
 -- a front has few lines
@@ -57,9 +57,6 @@ module _ (site : Site) (slots begun : List ℕ) (file : Option (List ℕ)) (same
 
   pub file_is_flawed : (said : Recovery) (line : ℕ) (reason : Reason) → TellsFrom site begun file said → said ≡ told.Flawed line reason → IsWhyNoStart site slots file (Flawed line reason)
   file_is_flawed said line reason tells is = told_of said (told.Flawed line reason) tells is
-
-  pub file_has_stray : (said : Recovery) (line agent : ℕ) → TellsFrom site begun file said → said ≡ told.Stray line agent → IsWhyNoStart site slots file (Stray line agent)
-  file_has_stray said line agent tells is = told_of said (told.Stray line agent) tells is
 
   -- ---- no run was begun
   unbegun_start : (setting : Site) (start : Start) → TellsFrom site (first_lines slots) file (told.Unopened setting) → IsUnbegun setting slots start.book → start.bytes ≡ None → start.preface ≡ None
@@ -96,7 +93,7 @@ module _ (site : Site) (slots begun : List ℕ) (file : Option (List ℕ)) (same
       where
         in_book : (preface : Option Preface) → TellsBook site told_book.0 r preface → IfSome preface (λ (p : Preface). p.lines < 2 ^ 32)
         in_book None t = tt
-        in_book (Some preface) t = omega (arith, t.1.preface_is.lines_are, few_lines t.1.front t.1.is_front.sound.fits)
+        in_book (Some preface) t = omega (arith, t.1.preface_is.lines_are, few_lines t.1.front t.1.is_front.fits)
 
     goes_on : (start : Start) → start.book ≡ r.book → start.bytes ≡ Some r.bytes → start.version ≡ r.version → start.preface ≡ r.preface → start.before ≡ before_of r.preface → start.before.entries < 2 ^ 63
         → StartsByFile site slots file start
@@ -144,6 +141,5 @@ module _ (site : Site) (slots begun : List ℕ) (file : Option (List ℕ)) (same
           ],
         )
     file_names_other (Err (Flawed line reason)) other = absurd other
-    file_names_other (Err (Stray line agent)) other = absurd other
     file_names_other (Err Unread) other = absurd other
     file_names_other (Err NoMemory) other = absurd other

@@ -20,10 +20,10 @@ use Rattle.wh_front.specs.declared.front.Front.{Front}
 use Rattle.wh_front.specs.declared.front.Seat.{Seat}
 use Rattle.wh_front.specs.Fronts.{front_text}
 use Rattle.wh_restore.specs.SoundFronts.{state_told}
-use Rattle.wh_resume.specs.Behind.{BreaksOffBehind, GoesOnBehind, IsFrontOnTheirWays, IsPrefaceOf, IsRunFrom, IsVersionThree, content_of}
+use Rattle.wh_resume.specs.Behind.{BreaksOffBehind, GoesOnBehind, IsFrontOf, IsPrefaceOf, IsRunFrom, IsVersionThree, content_of}
 use Rattle.wh_resume.specs.declared.recovery.Preface.{Preface}
 use Rattle.wh_resume.specs.Resuming.{IsRunOf, Tells, TellsBook}
-use Rattle.wh_continue.proofs.Versions.{no_odd, no_stray, same_front, three_behind, two_or_three, two_or_three_any, unopened_three, whole_three}
+use Rattle.wh_continue.proofs.Versions.{no_odd, same_front, three_behind, two_or_three, two_or_three_any, unopened_three, whole_three}
 use Rattle.wh_resume.proofs.Walks.{not_unopened}
 use Rattle.wh_journal.specs.Journals.{lines_for}
 use Rattle.wh_restore.specs.Heads.{first_two_lines}
@@ -77,7 +77,6 @@ recovered site begun content added later kept holds left (told.Resumed r) run fi
         }
 recovered site begun content added later kept holds left (told.Unopened setting) run fits kept_is behind is_left has_two is_two t = absurd (has_two t.0)
 recovered site begun content added later kept holds left (told.Flawed line reason) run fits kept_is behind is_left has_two is_two t = absurd (is_two t.version)
-recovered site begun content added later kept holds left (told.Stray line agent) run fits kept_is behind is_left has_two is_two t = absurd (is_two (whole_three t.front t.rest left t.text_is))
 recovered site begun content added later kept holds left (told.Bad line bytes) run fits kept_is behind is_left has_two is_two (e, why) = elim why [
   | inl breaks ↦
       absurd (breaks.never (front_begins site (grown (grown content added) later) left (is_left.lost ++ drop behind.count (lines_for later)) run fits (left_is_front content added later kept holds left kept_is behind is_left)))
@@ -115,7 +114,7 @@ pub record IsBehind (site : Site) (left : List ℕ) (r : Resumed) : Type 0 where
   pub goes_on : GoesOnBehind site left r.bytes r.is_ended preface r.book
 
 -- A text begins with a sound front, and with the two lines in its place a log of a run from its state begins.
-module _ (site : Site) (begun : List ℕ) (front : Front) (left more : List ℕ) (sound : IsFrontOnTheirWays site front) (left_is : left ≡ front_text front ++ more)
+module _ (site : Site) (begun : List ℕ) (front : Front) (left more : List ℕ) (sound : IsFrontOf site front) (left_is : left ≡ front_text front ++ more)
     (slots_fit : AllByRecursion IsSlots (map (λ (seat : Seat). seat.slots) front.seats))
     (begins : Begins (IsRunFrom site (state_told front)) (first_two_lines front.clock (map (λ (seat : Seat). seat.slots) front.seats) ++ more)) where
   version : IsVersionThree left
@@ -123,7 +122,7 @@ module _ (site : Site) (begun : List ℕ) (front : Front) (left more : List ℕ)
 
   never_breaks : (line : ℕ) → BreaksOffBehind site left line → ⊥
   never_breaks line b =
-      let same = same_front front b.front more b.rest left sound.sound.fits b.is_front.sound.fits left_is b.text_is in
+      let same = same_front front b.front more b.rest left sound.fits b.is_front.fits left_is b.text_is in
       let here : Begins (IsRunFrom site (state_told front)) (first_two_lines front.clock (map (λ (seat : Seat). seat.slots) front.seats) ++ b.rest) =
       subst (λ (t : List ℕ). Begins (IsRunFrom site (state_told front)) (first_two_lines front.clock (map (λ (seat : Seat). seat.slots) front.seats) ++ t)) same.1 begins in
       b.never (subst (λ (f : Front). Begins (IsRunFrom site (state_told f)) (first_two_lines f.clock (map (λ (seat : Seat). seat.slots) f.seats) ++ b.rest)) same.0 here)
@@ -136,21 +135,18 @@ module _ (site : Site) (begun : List ℕ) (front : Front) (left more : List ℕ)
       by_preface (Some preface) is (two, g) = record { preface = preface; preface_is = is; version_is = two; goes_on = g }
   behind_resumed (told.Unopened setting) t = absurd (unopened_three left version t.0)
   behind_resumed (told.Flawed line reason) t = elim t.why [
-    | inl first ↦ absurd (first.none front more sound.sound left_is)
+    | inl first ↦ absurd (first.none front more sound left_is)
     | inr (form, odd) ↦
-        let same = same_front front odd.front more odd.rest left sound.sound.fits odd.is_front.sound.fits left_is odd.text_is in
+        let same = same_front front odd.front more odd.rest left sound.fits odd.is_front.fits left_is odd.text_is in
         absurd (no_odd site left line odd (subst (λ (f : Front). AllByRecursion IsSlots (map (λ (seat : Seat). seat.slots) f.seats)) same.0 slots_fit))
   ]
-  behind_resumed (told.Stray line agent) t =
-      let same = same_front front t.front more t.rest left sound.sound.fits t.sound.fits left_is t.text_is in
-      absurd (no_stray site left line agent t (subst (λ (f : Front). IsFrontOnTheirWays site f) same.0 sound))
   behind_resumed (told.Bad line bytes) (e, why) = elim why [
     | inl breaks ↦ absurd (breaks.version version)
     | inr (inl breaks) ↦ absurd (never_breaks line breaks)
     | inr (inr otherwise) ↦ absurd (unopened_three left version otherwise.unopened)
   ]
 
-module _ (site : Site) (begun : List ℕ) (front : Front) (content : Content) (added later : List Entry) (kept holds left : List ℕ) (sound : IsFrontOnTheirWays site front)
+module _ (site : Site) (begun : List ℕ) (front : Front) (content : Content) (added later : List Entry) (kept holds left : List ℕ) (sound : IsFrontOf site front)
     (run : IsRunFrom site (state_told front) (grown (grown content added) later)) (fits : Fits Two (grown (grown content added) later)) (kept_is : kept ≡ (front_text front ++ lines_for content.entries) ++ lines_for added)
     (behind : WritesFront (Some kept) (Some holds) (lines_for later)) (is_left : IsLeft kept holds left) where
   stands : Longer (front_text front) left
@@ -178,7 +174,7 @@ module _ (site : Site) (begun : List ℕ) (front : Front) (content : Content) (a
       let r = found.0 in
       let g = found.2.goes_on in
       let held : HoldsBehind g.front (content_of r.book) r.is_ended left r.bytes = record { fits = g.fits; rest = g.rest; text_is = g.text_is; rest_is = g.rest_is; bytes_are = g.bytes_are } in
-      let f = added_are_found_behind front g.front content (content_of r.book) added later kept holds left r.is_ended r.bytes sound.sound.fits g.is_front.sound.fits fits kept_is behind is_left held in (
+      let f = added_are_found_behind front g.front content (content_of r.book) added later kept holds left r.is_ended r.bytes sound.fits g.is_front.fits fits kept_is behind is_left held in (
         r,
         found.1,
         record {

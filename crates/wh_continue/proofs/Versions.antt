@@ -15,7 +15,7 @@ use Rattle.wh_front.specs.declared.front.Seat.{Seat}
 use Rattle.wh_front.specs.Spelling.{front_line}
 use Rattle.wh_front.specs.Fronts.{Fits, front_lines, front_text}
 use Rattle.wh_front.proofs.Readings.{one_front}
-use Rattle.wh_resume.specs.Behind.{HasOddSlots, HasStray, IsFrontOnTheirWays, IsVersionThree}
+use Rattle.wh_resume.specs.Behind.{HasOddSlots, IsVersionThree}
 
 -- the digit of the version
 abbrev digit : List ℕ → ℕ
@@ -68,7 +68,3 @@ seat_known : (seats : List Seat) (agent : ℕ) (seat : Seat) → slice_get seats
 seat_known [] agent seat is = cc
 seat_known (s ∷ seats) zero seat is = omega arith
 seat_known (s ∷ seats) (suc agent) seat is = let rest = seat_known seats agent seat is in omega (arith, rest)
-
-pub no_stray : (site : Site) (text : List ℕ) (line agent : ℕ) → (stray : HasStray site text line agent) → IsFrontOnTheirWays site stray.front → ⊥
-no_stray site text line agent stray ways =
-    stray.stray (ways.on_their_ways agent (omega (arith, seat_known stray.front.seats agent stray.seat stray.seat_is, length-map stray.front.seats (λ (s : Seat). s.path))))

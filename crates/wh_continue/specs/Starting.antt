@@ -13,14 +13,14 @@ use Rattle.wh_front.specs.declared.front.Count.{Count}
 use Rattle.wh_front.specs.Ranges.{are_told}
 use Rattle.wh_resume.specs.declared.recovery.Preface.{Preface}
 use Rattle.wh_resume.specs.Resuming.{EndsBefore, GoesOn, IsFront, IsWhyBad}
-use Rattle.wh_resume.specs.Behind.{GoesOnBehind, HasStray, IsFlawed}
+use Rattle.wh_resume.specs.Behind.{GoesOnBehind, IsFlawed}
 use Rattle.wh_event.specs.declared.entry.Entry.{Entry}
 use Rattle.wh_event.specs.declared.reply.Reply.{Reply}
 use Rattle.wh_event.specs.declared.reply.Reply.TheVariants.{Replaced}
 use Rattle.wh_continue.specs.Before.{Before}
 use Rattle.wh_continue.specs.declared.starting.Start.{Start}
 use Rattle.wh_continue.specs.declared.starting.StartFault.{StartFault}
-use Rattle.wh_continue.specs.declared.starting.StartFault.TheVariants.{Bad, Flawed, Stray, Unread, NoMemory}
+use Rattle.wh_continue.specs.declared.starting.StartFault.TheVariants.{Bad, Flawed, Unread, NoMemory}
 
 -- the first two lines of the log of a run that is at clock 0 with these slots
 abbrev pub first_lines : List ℕ → List ℕ
@@ -124,7 +124,6 @@ IsWhyNotOn preface history (Bad line) =
     ((place : ℕ) × IsFirstOther history place × (line ≡ (before_of preface).lines + (place + 1)))
     ⊎ ((told : Preface) × (preface ≡ Some told) × (2 ^ 63 ≤ (before_of preface).entries) × (line ≡ counts_line told))
 IsWhyNotOn preface history (Flawed line reason) = ⊥
-IsWhyNotOn preface history (Stray line agent) = ⊥
 IsWhyNotOn preface history Unread = ⊥
 IsWhyNotOn preface history NoMemory = ⊥
 
@@ -141,6 +140,5 @@ abbrev pub IsWhyNoStart : Site → (slots : List ℕ) → (file : Option (List �
 IsWhyNoStart site slots file (Bad line) =
     (text : List ℕ) × IfSome file (λ held. text ≡ held) × (BreaksAt site slots text line ⊎ NamesOther site text line ⊎ CountsTooMany site text line)
 IsWhyNoStart site slots file (Flawed line reason) = (text : List ℕ) × IfSome file (λ held. text ≡ held) × IsFlawed site text line reason
-IsWhyNoStart site slots file (Stray line agent) = (text : List ℕ) × IfSome file (λ held. text ≡ held) × HasStray site text line agent
 IsWhyNoStart site slots file Unread = Unit {0}
 IsWhyNoStart site slots file NoMemory = Unit {0}

@@ -3,7 +3,7 @@
 
 ghost use Rattle.std.specs.Prelude.{◌≡◌, ◌++◌, ◌-◌, true, None, IfOk, IfErr, OnOk, OnErr, drop, length};
 ghost use Rattle.std.specs.Io.KnownBytes.{Appends, Keeps};
-ghost use Rattle.wh_core.specs.Laws.{IsBeginningOnTheirWays};
+ghost use Rattle.wh_core.specs.Laws.{IsBeginning};
 ghost use Rattle.wh_core.specs.Steps.{Run};
 ghost use Rattle.wh_journal.specs.Surviving.{HoldsLog, StaysLog};
 ghost use Rattle.wh_journal.specs.Scripts.{WritesFront};
@@ -280,7 +280,7 @@ pub fn run_on<R: Read, W: Write, L: LogFile, P: Planner>(
 ) -> Result<(Warehouse<P>, Option<Preface>), RunFault>
     requires starts { IsStartOf (L.contents file.old) start }
     ensures runs { IfOk result (λ r. RunsOn P.fits_map P.slot_count (log_asker form) again deliver lines.old lines.new start spares.old.items r.0.book spares.new.items (W.contents writer.old) (W.contents writer.new) (L.contents file.old) (L.synced file.new) (L.contents file.new)) }
-    ensures opening { IfOk result (λ r. IsBeginningOnTheirWays r.0.book.site r.0.book.opening) }
+    ensures opening { IfOk result (λ r. IsBeginning r.0.book.site r.0.book.opening) }
     ensures run { IfOk result (λ r. Run r.0.book.site r.0.book.opening r.0.book.history r.0.book.state) }
     ensures preface { IfOk result (λ r. r.1 ≡ start.preface) }
     ensures fault { IfErr result (λ fault. StopsRun P.fits_map P.slot_count (log_asker form) again deliver fault lines.old lines.new start planners.items spares.old.items spares.new.items (W.contents writer.old) (W.contents writer.new) (L.contents file.old) (L.failed file.new) (L.synced file.new) (L.contents file.new)) }

@@ -56,8 +56,6 @@ pub enum StartFault {
     Bad { line: u64 },
     /// S1 to S11, and L1: the first line of the front with a flaw, from 1, and its first flaw.
     Flawed { line: u64, reason: Reason },
-    /// L1: the line of the first agent of the front that is not on its way.
-    Stray { line: u64, agent: u32 },
     /// X5: the file cannot be read, is no file of bytes, or another has it.
     Unread,
     /// E90: out of memory.
@@ -195,7 +193,7 @@ fn recover_file<L: LogFile>(
 /// The file is read piece by piece, and not changed: memory is taken for the run and for a line or two.
 ///
 /// Errors: `Bad` with the first line with which no log of a run of this site goes on, or with the line of an entry that tells
-/// of a planner with more slots or fewer, or of counts that make 2^63 or more; `Flawed` and `Stray` with a line of the front;
+/// of a planner with more slots or fewer, or of counts that make 2^63 or more; `Flawed` with a line of the front;
 /// `Unread`; `NoMemory`.
 pub fn find_start<L: LogFile>(
     alloc: Global,
@@ -221,7 +219,6 @@ pub fn find_start<L: LogFile>(
         Recovery::Unopened(setting) => Ok(begin(alloc, setting, slots)?),
         Recovery::Bad { line, .. } => Err(StartFault::Bad { line }),
         Recovery::Flawed { line, reason } => Err(StartFault::Flawed { line, reason }),
-        Recovery::Stray { line, agent } => Err(StartFault::Stray { line, agent }),
         Recovery::Resumed(resumed) => go_on(resumed),
     }
 }

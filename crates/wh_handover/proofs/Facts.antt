@@ -7,7 +7,7 @@ use Rattle.wh_points.specs.Points.{Site}
 use Rattle.wh_words.specs.Lines.{text_of}
 use Rattle.wh_core.specs.States.{State}
 use Rattle.wh_core.specs.Steps.{Run}
-use Rattle.wh_core.specs.Laws.{IsBeginningOnTheirWays}
+use Rattle.wh_core.specs.Laws.{IsBeginning}
 use Rattle.wh_tasks.specs.declared.task.Task.{Task}
 use Rattle.wh_event.specs.declared.entry.Entry.{Entry}
 use Rattle.wh_log.specs.Spelling.{entry_line}
@@ -111,7 +111,7 @@ known site text r (Some preface) (version, g) =
       rest = g.rest;
       text_is = g.text_is;
       bytes_are = g.bytes_are;
-      callers_fit = subst AreCallers (sym is.callers_are) (named front.tasks g.is_front.sound.fits.tasks);
+      callers_fit = subst AreCallers (sym is.callers_are) (named front.tasks g.is_front.fits.tasks);
       submitted = ap (λ (ns : List ℕ). length ns) is.callers_are ∙ length-map front.tasks caller_of ∙ sym (length-map front.tasks task_of) ∙ ap (λ (s : State). length s.tasks) (sym g.opening_is);
       entries_named = callers_kept (most_stops Two) r.book.history g.fits.entries;
     }
@@ -126,11 +126,11 @@ nothing_before [] ys is = refl
 nothing_before (x ∷ xs) ys is = cc
 
 -- with what the book keeps it is a log of a run
-pub tells : (site : Site) (text : List ℕ) (bytes : ℕ) (book : Seen) (preface : Option Preface) (k : Known site text bytes book preface) → IsBeginningOnTheirWays site book.opening →
+pub tells : (site : Site) (text : List ℕ) (bytes : ℕ) (book : Seen) (preface : Option Preface) (k : Known site text bytes book preface) → IsBeginning site book.opening →
     Run site book.opening book.history book.state → Tells site text k.told
 tells site text bytes book preface k begins run = record {
   holds = k.holds;
-  begins = subst (λ (s : State). IsBeginningOnTheirWays site s) k.opening_is begins;
+  begins = subst (λ (s : State). IsBeginning site s) k.opening_is begins;
   state = book.state;
   run = subst (λ (s : State). Run site s k.told.entries book.state) k.opening_is (subst (λ (es : List Entry). Run site book.opening es book.state) k.entries_are run);
 }

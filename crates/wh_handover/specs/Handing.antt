@@ -6,7 +6,7 @@ use Rattle.wh_words.specs.Lines.{text_of}
 use Rattle.wh_points.specs.Points.{Site}
 use Rattle.wh_core.specs.States.{State, opened}
 use Rattle.wh_core.specs.Steps.{Run}
-use Rattle.wh_core.specs.Laws.{IsBeginningOnTheirWays}
+use Rattle.wh_core.specs.Laws.{IsBeginning}
 use Rattle.wh_event.specs.declared.entry.Entry.{Entry}
 use Rattle.wh_log.specs.declared.version.Version.{Version}
 use Rattle.wh_log.specs.declared.version.Version.TheVariants.{Two}
@@ -23,7 +23,7 @@ use Rattle.wh_front.specs.Fronts.{Fits, front_text}
 use Rattle.wh_stand.specs.Parts.{state_of}
 use Rattle.wh_restore.specs.SoundFronts.{state_told}
 use Rattle.wh_resume.specs.Drafts.{Seen}
-use Rattle.wh_resume.specs.Behind.{IsFrontOnTheirWays, IsFlawed, HasStray, entries_told, rules_of}
+use Rattle.wh_resume.specs.Behind.{IsFrontOf, IsFlawed, entries_told, rules_of}
 use Rattle.wh_resume.specs.Resuming.{IsWhyBad}
 use Rattle.wh_snapshot.specs.Snapshots.{IsSnapshot, CanCount, all_told, told_parts}
 use Rattle.wh_handover.specs.declared.front.HandoverFault.{HandoverFault}
@@ -81,7 +81,7 @@ pub record HoldsLater (site : Site) (text : List ℕ) (told : Told) : Type 0 whe
   pub entries : List Entry
   pub is_ended : Bool
   pub rest : List ℕ
-  pub is_front : IsFrontOnTheirWays site front
+  pub is_front : IsFrontOf site front
   pub fits : FitsLog Two (record { clock = (state_told front).clock; slots = (state_told front).slots; entries = entries })
   pub text_is : text ≡ (front_text front ++ entries_told entries) ++ rest
   pub rest_is : IsRest is_ended (record { clock = (state_told front).clock; slots = (state_told front).slots; entries = entries }) rest
@@ -90,7 +90,7 @@ pub record HoldsLater (site : Site) (text : List ℕ) (told : Told) : Type 0 whe
 -- the text holds a log of a run over the site, which tells this
 pub record Tells (site : Site) (text : List ℕ) (told : Told) : Type 0 where
   pub holds : HoldsFirst site text told ⊎ HoldsLater site text told
-  pub begins : IsBeginningOnTheirWays site told.opening
+  pub begins : IsBeginning site told.opening
   pub state : State
   pub run : Run site told.opening told.entries state
 
@@ -145,6 +145,5 @@ pub record HasNoState (site : Site) (text : List ℕ) (after : Option ℕ) : Typ
 abbrev pub IsWhyNone : Site → List ℕ → Option ℕ → HandoverFault → Type 0
 IsWhyNone site text after fault.Empty = text ≡ []
 IsWhyNone site text after (fault.Flawed line reason) = IsFlawed site text line reason
-IsWhyNone site text after (fault.Stray line agent) = HasStray site text line agent
 IsWhyNone site text after (fault.Bad line) = ((line ≡ 0) × HasNoState site text after) ⊎ IsWhyBad site [] text line
 IsWhyNone site text after fault.NoMemory = Unit {0}

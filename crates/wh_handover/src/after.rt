@@ -7,7 +7,7 @@ ghost use Rattle.wh_core.specs.Steps.{Run};
 ghost use Rattle.wh_front.specs.declared.front.Front.{Front};
 ghost use Rattle.wh_front.specs.Fronts.{front_text};
 ghost use Rattle.wh_restore.specs.SoundFronts.{state_told};
-ghost use Rattle.wh_resume.specs.Behind.{IsFrontOnTheirWays, rules_of};
+ghost use Rattle.wh_resume.specs.Behind.{IsFrontOf, rules_of};
 ghost use Rattle.wh_resume.specs.Resuming.{TellsBook};
 
 use std::alloc::Global;
@@ -53,7 +53,7 @@ fn first_judge<'a>(alloc: Global, book: &'a Book) -> Result<Judge<'a>, NoMemory>
 
 /// A judge at the state with which a log of version 3 begins.
 fn later_judge<'a>(alloc: Global, book: &'a Book, text: &[u8]) -> Result<Judge<'a>, NoMemory>
-    requires front { (front : Front) × (rest : List ℕ) × IsFrontOnTheirWays book.now.site front × (text.now ≡ front_text front ++ rest) × (book.now.opening ≡ state_told front) }
+    requires front { (front : Front) × (rest : List ℕ) × IsFrontOf book.now.site front × (text.now ≡ front_text front ++ rest) × (book.now.opening ≡ state_told front) }
     ensures { IfOk result (λ judge. judge ≡ record { site = book.now.site; state = book.now.opening }) }
 {
     let _history = book.history();

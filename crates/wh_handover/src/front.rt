@@ -33,8 +33,6 @@ pub enum HandoverFault {
     Empty,
     /// The log is of version 3, and this line of its front has a flaw, the first, and this is its first.
     Flawed { line: u64, reason: Reason },
-    /// The log is of version 3, and this is the first agent that is not on its way in the state of its front, and its line.
-    Stray { line: u64, agent: u32 },
     /// The first line, from 1, with which no log of a run begins; or 0 where the log has no such state.
     Bad { line: u64 },
     /// Out of memory.
@@ -139,7 +137,7 @@ fn front_of(
 /// after the entry of the number that is asked for, counted from the first opening of the chain, else after the last that stands whole; what
 /// was before, which is that log as far as there; who submitted each task, and how many entries each caller had.
 ///
-/// Errors: `Empty`; `Flawed`, `Stray` and `Bad` as `wh_resume::recover` tells them; `Bad` with line 0 where the log has no such state;
+/// Errors: `Empty`; `Flawed` and `Bad` as `wh_resume::recover` tells them; `Bad` with line 0 where the log has no such state;
 /// `NoMemory`.
 pub fn front_after(
     alloc: Global,
@@ -165,7 +163,6 @@ pub fn front_after(
         }
         Recovery::Unopened(_) => Err(HandoverFault::Empty),
         Recovery::Flawed { line, reason } => Err(HandoverFault::Flawed { line, reason }),
-        Recovery::Stray { line, agent } => Err(HandoverFault::Stray { line, agent }),
         Recovery::Bad { line, .. } => Err(HandoverFault::Bad { line }),
     }
 }

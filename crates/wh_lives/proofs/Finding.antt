@@ -31,7 +31,7 @@ use Rattle.wh_restore.specs.declared.reason.Reason.{Reason}
 use Rattle.wh_restore.specs.declared.restored.Head.{Head}
 use Rattle.wh_restore.specs.Heads.{first_two_lines}
 use Rattle.wh_restore.specs.SoundFronts.{state_told}
-use Rattle.wh_resume.specs.Behind.{HasStray, IsFlawed, IsPrefaceOf, IsRunFrom, IsVersionThree, content_of}
+use Rattle.wh_resume.specs.Behind.{IsFlawed, IsPrefaceOf, IsRunFrom, IsVersionThree, content_of}
 use Rattle.wh_resume.specs.declared.recovery.Preface.{Preface}
 use Rattle.wh_resume.specs.Resuming.{IsRunOf, Tells, TellsBook}
 use Rattle.wh_resume.specs.declared.recovery.Resumed.{Resumed}
@@ -101,7 +101,6 @@ record GoesFrom (life : Deeds) (r : Resumed) : Type 0 where
 pub record IsFoundIn (site : Site) (slots : List ℕ) (life : Deeds) (left : List ℕ) : Type 0 where
   pub unbroken : (line : ℕ) → BreaksAt site slots left line → ⊥
   pub unflawed : (line : ℕ) (reason : Reason) → IsFlawed site left line reason → ⊥
-  pub no_stray : (line agent : ℕ) → HasStray site left line agent → ⊥
   pub uncounted : (line : ℕ) → CountsTooMany site left line → ⊥
   pub found : (start : Start) → StartsIn site slots left start → Continues life start.book
 
@@ -135,9 +134,6 @@ module _ (site : Site) (slots left : List ℕ) (life : Deeds) (resumes : (said :
     unflawed = λ line reason f.
         let s = resumes (told.Flawed line reason) f in
         let no : told.Flawed line reason ≡ told.Resumed s.0 = s.1 in cc;
-    no_stray = λ line agent f.
-        let s = resumes (told.Stray line agent) f in
-        let no : told.Stray line agent ≡ told.Resumed s.0 = s.1 in cc;
     uncounted = λ line c.
         let few = (goes_in (Some c.preface) Two c.bytes c.book c.goes_on).1 in
         omega (arith, few, c.many);
@@ -268,7 +264,6 @@ module _ (site : Site) (slots : List ℕ) (life : Deeds) (later : List Entry) (g
               }
       ended_resumes (told.Unopened setting) t = absurd (not_new t.0)
       ended_resumes (told.Flawed line reason) t = absurd (is_two t.version)
-      ended_resumes (told.Stray line agent) t = absurd (is_two (whole_three t.front t.rest left t.text_is))
       ended_resumes (told.Bad line bytes) (ends, why) = elim why [
         | inl breaks ↦ absurd (breaks.never log_begins)
         | inr (inl breaks) ↦ absurd (is_two (whole_three breaks.front breaks.rest left breaks.text_is))
@@ -353,7 +348,7 @@ module _ (site : Site) (slots : List ℕ) (life : Deeds) (later : List Entry) (g
       one_behind : (r : Resumed) → IsBehind site left r → GoesFrom life r
       one_behind r b =
           let g = b.goes_on in
-          let same = same_front h.front g.front more (lines_for r.book.history ++ g.rest) left h.sound.sound.fits g.is_front.sound.fits left_behind
+          let same = same_front h.front g.front more (lines_for r.book.history ++ g.rest) left h.sound.fits g.is_front.fits left_behind
           (g.text_is ∙ append_assoc (front_text g.front) (lines_for r.book.history) g.rest) in
           let found : Content = record { clock = life.known.opening.clock; slots = life.known.opening.slots; entries = r.book.history } in
           let held = ends_held known_log e.part e.behind fits_known e.whole in
@@ -386,8 +381,8 @@ module _ (site : Site) (slots : List ℕ) (life : Deeds) (later : List Entry) (g
 front_fits : (site : Site) (known final : Seen) (text : List ℕ) (h : IsSoundHead site known.opening text) → IsInRange site → Run site known.opening final.history final.state → All (λ path. last_index path < 2 ^ 63) known.opening.paths
     → AllByRecursion IsSlots known.opening.slots → AllByRecursion IsAskedInRange final.history → length final.history < 10 ^ 9 → Fits Two (all_of known final)
 front_fits site known final text h range run paths slots asked few =
-    let f = h.sound.sound.fits in
-    let begins : IsBeginning site known.opening = subst (λ (s : State). IsBeginning site s) (sym h.opening_is) h.sound.sound.beginning in
+    let f = h.sound.fits in
+    let begins : IsBeginning site known.opening = subst (λ (s : State). IsBeginning site s) (sym h.opening_is) h.sound.beginning in
     let clock : known.opening.clock ≡ h.front.clock = ap (λ (s : State). s.clock) h.opening_is in
     let seats : length known.opening.slots ≡ length h.front.seats = ap (λ (s : State). length s.slots) h.opening_is ∙ length-map h.front.seats (λ (seat : Seat). seat.slots) in
     let clock_fits = f.clock in

@@ -1,4 +1,5 @@
 -- What a session over a log file came to, as a life.
+use Rattle.wh_book.proofs.Kept.{begun-opening}
 use Rattle.std.proofs.Common.{◌≡◌, ◌<◌, ◌^◌, inl, inr, ℕ, Bool, false, List, [], ◌++◌, take, append_assoc, length, refl, sym, ap, ◌∙◌, subst, arith, append-nil, length-append, true≢false, Option, None, Some, Err}
 use Rattle.std.specs.Prelude.{IfSome}
 use Rattle.std.specs.Io.KnownBytes.{Appends, Keeps}
@@ -9,8 +10,7 @@ use Rattle.wh_lines.proofs.Written.{front_after, front_all}
 use Rattle.wh_grid.specs.Grids.{Floor}
 use Rattle.wh_points.specs.Points.{Site}
 use Rattle.wh_event.specs.declared.entry.Entry.{Entry}
-use Rattle.wh_core.specs.Laws.{IsBeginningOnTheirWays}
-use Rattle.wh_core.proofs.Sound.{may-opening}
+use Rattle.wh_core.specs.Laws.{IsBeginning}
 use Rattle.wh_core.specs.States.{State, opened}
 use Rattle.wh_core.specs.Steps.{Run}
 use Rattle.std.specs.List.{sum_by}
@@ -141,15 +141,15 @@ safe_over site book closed full synced holds log safe ends =
 
 -- the log of what a start was found in
 begun_log : (site : Site) (slots text : List ℕ) (preface : Option Preface) (version : Version) (book : Seen) (bytes : Option ℕ) → StartsAt site slots text preface version book bytes → (before_of preface).entries < 2 ^ 63
-    → IsBeginningOnTheirWays site book.opening → IsLog site (Some (log_from bytes version (opening_lines book) text)) book
+    → IsBeginning site book.opening → IsLog site (Some (log_from bytes version (opening_lines book) text)) book
 begun_log site slots text preface version book None b few begins = record {
   head = opening_lines book;
-  before = inl (may-opening site book.opening 0 slots begins b.0.unbegun.opening_is, refl);
+  before = inl (begun-opening site book.opening 0 slots begins b.0.unbegun.opening_is, refl);
   is = ap (λ (l : List ℕ). Some l) (sym (append-nil (opening_lines book)) ∙ ap (λ (es : List Entry). opening_lines book ++ lines_for es) (sym b.0.unbegun.history_is));
 }
 begun_log site slots text None version book (Some n) g few begins =
     let held : Holds Two g.content g.is_ended (in_two version text) n = holds_in_two version g.content g.is_ended text n g.holds in
-    let opens = may-opening site book.opening g.content.clock g.content.slots begins g.goes_on.opening_is in
+    let opens = begun-opening site book.opening g.content.clock g.content.slots begins g.goes_on.opening_is in
     record { head = first_two_lines book.opening.clock book.opening.slots; before = inl (opens, refl); is = ap (λ (l : List ℕ). Some l) (two_cut site g.content g.is_ended (in_two version text) n book held g.goes_on ∙ two_lines (told_by book)) }
 begun_log site slots text (Some preface) version book (Some n) (two, (is_ended, g)) few begins = record {
   head = front_text g.front;
@@ -163,7 +163,7 @@ begun_log site slots text (Some preface) version book (Some n) (two, (is_ended, 
   is = ap (λ (v : Version). Some (take n (in_two v text))) two ∙ ap (λ (l : List ℕ). Some l) (cut_behind site text n is_ended preface book g);
 }
 
-log_begun : (site : Site) (slots : List ℕ) (file begun : Option (List ℕ)) (start : Start) → StartsByFile site slots file start → IsBegunFrom start file begun → IsBeginningOnTheirWays site start.book.opening
+log_begun : (site : Site) (slots : List ℕ) (file begun : Option (List ℕ)) (start : Start) → StartsByFile site slots file start → IsBegunFrom start file begun → IsBeginning site start.book.opening
     → IfSome file (λ _. IsLog site begun start.book)
 log_begun site slots None begun start s is begins = tt
 log_begun site slots (Some held) begun start s is begins =
@@ -329,12 +329,12 @@ start_of site slots file here start s same = subst (λ (f : Option (List ℕ)). 
     told None is = tt
     told (Some held) is = inl (site, slots, subst (λ (t : List ℕ). StartsIn site slots t start) is s.starts)
 
-pub sound_of : (site : Site) (slots : List ℕ) (file : Option (List ℕ)) (start : Start) → StartsByFile site slots file start → IsBeginningOnTheirWays start.book.site start.book.opening
+pub sound_of : (site : Site) (slots : List ℕ) (file : Option (List ℕ)) (start : Start) → StartsByFile site slots file start → IsBeginning start.book.site start.book.opening
     → Run start.book.site start.book.opening start.book.history start.book.state → IsRunOn site start.book
 sound_of site slots file start s begins run =
     let at = start_site site slots s.text start.version start.book start.preface start.bytes s.starts.at in
     record {
       site_is = at;
-      is_beginning = subst (λ (x : Site). IsBeginningOnTheirWays x start.book.opening) at begins;
+      is_beginning = subst (λ (x : Site). IsBeginning x start.book.opening) at begins;
       run = subst (λ (x : Site). Run x start.book.opening start.book.history start.book.state) at run;
     }

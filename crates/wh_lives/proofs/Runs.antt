@@ -10,7 +10,7 @@ use Rattle.wh_points.specs.Points.{Site, starts}
 use Rattle.wh_event.specs.declared.entry.Entry.{Entry}
 use Rattle.wh_core.specs.States.{State, opened}
 use Rattle.wh_core.specs.Steps.{Run}
-use Rattle.wh_core.specs.Laws.{IsBeginningOnTheirWays}
+use Rattle.wh_core.specs.Laws.{IsBeginning}
 use Rattle.wh_core.proofs.StepKinds.{run-join}
 use Rattle.wh_log.specs.Logs.{IsSlots, most_stops}
 use Rattle.wh_log.specs.Ranges.{Keeps}
@@ -35,7 +35,7 @@ same_entries (c ∷ x) a b e = same_entries x a b (let tail : x ++ a ≡ x ++ b 
 -- the book's history is a run of the site, from a state in which all are on their ways
 pub record IsRunOn (site : Site) (book : Seen) : Type 0 where
   pub site_is : book.site ≡ site
-  pub is_beginning : IsBeginningOnTheirWays site book.opening
+  pub is_beginning : IsBeginning site book.opening
   pub run : Run site book.opening book.history book.state
 
 module _ {X : Type 0} (fits : X → Floor → Bool) (count : X → ℕ) (asker : Asker) where
@@ -57,7 +57,7 @@ module _ {X : Type 0} (fits : X → Floor → Bool) (count : X → ℕ) (asker :
         let whole : Run site old.opening (old.history ++ added) new.state = run-join site old.opening old.history old.state added new.state r.run more in
         record {
           site_is = s.output.site ∙ r.site_is;
-          is_beginning = subst (λ (o : State). IsBeginningOnTheirWays site o) (sym opening_is) r.is_beginning;
+          is_beginning = subst (λ (o : State). IsBeginning site o) (sym opening_is) r.is_beginning;
           run = subst (λ (o : State). Run site o new.history new.state) (sym opening_is) (subst (λ (es : List Entry). Run site old.opening es new.state) (sym s.added_are) whole);
         }
 

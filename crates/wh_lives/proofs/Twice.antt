@@ -13,9 +13,9 @@ use Rattle.wh_judge.specs.Written.{IsAskedInRange}
 use Rattle.wh_replay.specs.declared.asker.Asker.{Asker}
 use Rattle.wh_continue.specs.Closing.{Survives, SurvivesBehind}
 use Rattle.wh_continue.specs.Starting.{BreaksAt, CountsTooMany, NamesOther, StartsByFile, StartsIn}
-use Rattle.wh_resume.specs.Behind.{HasStray, IsFlawed}
+use Rattle.wh_resume.specs.Behind.{IsFlawed}
 use Rattle.wh_continue.specs.declared.starting.Start.{Start}
-use Rattle.wh_continue.specs.declared.starting.StartFault.TheVariants.{Bad, Flawed, Stray, Unread, NoMemory}
+use Rattle.wh_continue.specs.declared.starting.StartFault.TheVariants.{Bad, Flawed, Unread, NoMemory}
 use Rattle.wh_lives.specs.Lives.{Continues, Deeds, Finds, Life, Lived}
 use Rattle.wh_lives.specs.Twice.{CanBeTold, LeavesOf, LivesTwice, has_lived}
 use Rattle.wh_lives.specs.declared.life.LifeFault.{LifeFault}
@@ -115,7 +115,6 @@ module _ (law : Survives) (behind : SurvivesBehind) {X : Type 0} (fits : X → F
       finds (Err (Unbegun fault)) i j h k s t l = continued late.start l.0
       finds (Err (Stopped fault)) i j h k s t l = continued late.start l.starts
       finds (Err (Unstarted (Flawed line reason))) i j h k s t l = found.unflawed line reason (subst (λ (x : List ℕ). IsFlawed site x line reason) (read_so l.0.0 l.0.1) l.0.2)
-      finds (Err (Unstarted (Stray line agent))) i j h k s t l = found.no_stray line agent (subst (λ (x : List ℕ). HasStray site x line agent) (read_so l.0.0 l.0.1) l.0.2)
       finds (Err (Unstarted Unread)) i j h k s t l = tt
       finds (Err (Unstarted NoMemory)) i j h k s t l = tt
       finds (Err (Unstarted (Bad line))) i j h k s t l = elim l.0.2 [

@@ -6,14 +6,14 @@ use Rattle.wh_grid.specs.Grids.{Floor}
 use Rattle.wh_points.specs.Points.{Site}
 use Rattle.wh_event.specs.declared.entry.Entry.{Entry}
 use Rattle.wh_core.specs.States.{State}
-use Rattle.wh_core.specs.Laws.{IsOpening, IsBeginningOnTheirWays}
+use Rattle.wh_core.specs.Laws.{IsOpening, IsBeginning}
 use Rattle.wh_core.specs.Steps.{Run}
 use Rattle.wh_front.specs.declared.front.Count.{Count}
 use Rattle.wh_front.specs.declared.front.Front.{Front}
 use Rattle.wh_front.specs.Fronts.{front_text}
 use Rattle.wh_restore.specs.Heads.{first_two_lines}
 use Rattle.wh_restore.specs.SoundFronts.{state_told}
-use Rattle.wh_resume.specs.Behind.{IsFrontOnTheirWays}
+use Rattle.wh_resume.specs.Behind.{IsFrontOf}
 use Rattle.wh_resume.specs.Drafts.{Seen}
 use Rattle.wh_replay.specs.Answers.{text_of}
 use Rattle.wh_replay.specs.declared.asker.Asker.{Asker}
@@ -22,7 +22,7 @@ use Rattle.wh_journal.specs.Scripts.{WritesFront}
 use Rattle.wh_continue.specs.Running.{first_text, last_line}
 use Rattle.wh_continue.specs.Starting.{IsWhyNoStart, NamesOther, StartsByFile}
 use Rattle.wh_continue.specs.declared.starting.Start.{Start}
-use Rattle.wh_continue.specs.declared.starting.StartFault.TheVariants.{Bad, Flawed, Stray, Unread, NoMemory}
+use Rattle.wh_continue.specs.declared.starting.StartFault.TheVariants.{Bad, Flawed, Unread, NoMemory}
 use Rattle.wh_lives.specs.declared.life.LifeFault.{LifeFault}
 use Rattle.wh_lives.specs.declared.life.LifeFault.TheVariants.{Unstarted, Unbegun, Stopped}
 
@@ -36,7 +36,7 @@ pub record Deeds : Type 0 where
 -- 2^63 entries.
 pub record IsSoundHead (site : Site) (opening : State) (text : List ℕ) : Type 0 where
   pub front : Front
-  pub sound : IsFrontOnTheirWays site front
+  pub sound : IsFrontOf site front
   pub text_is : text ≡ front_text front
   pub opening_is : opening ≡ state_told front
   pub few : sum_by (λ (count : Count). count.entries) front.counts < 2 ^ 63
@@ -76,7 +76,7 @@ pub record Life {X : Type 0} (fits : X → Floor → Bool) (count : X → ℕ) (
   pub unserved : List ℕ
   pub takes : Takes before after (answered ++ (unanswered ++ unserved))
   pub is_safe : IfSome file (λ _. IsSafe site deeds.known later synced holds)
-  pub is_beginning : IsBeginningOnTheirWays site deeds.final.opening
+  pub is_beginning : IsBeginning site deeds.final.opening
   pub run : Run site deeds.final.opening deeds.final.history deeds.final.state
 
 -- nothing was taken of the input, and nothing was told
@@ -109,7 +109,6 @@ abbrev pub Finds : (site : Site) → (left : Option (List ℕ)) → (first : Dee
 Finds site left first (Ok _) second = Continues first second.start.book
 Finds site left first (Err (Unstarted (Bad line))) second = IfSome left (λ text. NamesOther site text line)
 Finds site left first (Err (Unstarted (Flawed line reason))) second = ⊥
-Finds site left first (Err (Unstarted (Stray line agent))) second = ⊥
 Finds site left first (Err (Unstarted Unread)) second = Unit {0}
 Finds site left first (Err (Unstarted NoMemory)) second = Unit {0}
 Finds site left first (Err (Unbegun fault)) second = Continues first second.start.book

@@ -9,7 +9,7 @@ use Rattle.wh_text.specs.Lines.{IsLine}
 use Rattle.wh_points.specs.Points.{Site}
 use Rattle.wh_core.specs.States.{State}
 use Rattle.wh_core.specs.Steps.{Run}
-use Rattle.wh_core.specs.Laws.{IsBeginningOnTheirWays}
+use Rattle.wh_core.specs.Laws.{IsBeginning}
 use Rattle.wh_event.specs.declared.entry.Entry.{Entry}
 use Rattle.wh_state.specs.Columns.{state_in}
 use Rattle.wh_judge.specs.Judged.{Judged}
@@ -36,7 +36,7 @@ use Rattle.wh_resume.specs.declared.looking.Begun.{Begun}
 use Rattle.wh_resume.specs.declared.recovery.Preface.{Preface}
 use Rattle.wh_resume.specs.Keeping.{Kept, Opens, Steps}
 use Rattle.wh_resume.specs.Looking.{IsBegun, IsReady}
-use Rattle.wh_resume.specs.Behind.{IsRunFrom, IsFrontOnTheirWays, IsPrefaceOf, GoesOnBehind, BreaksOffBehind, entries_told, content_of}
+use Rattle.wh_resume.specs.Behind.{IsRunFrom, IsFrontOf, IsPrefaceOf, GoesOnBehind, BreaksOffBehind, entries_told, content_of}
 use Rattle.wh_resume.specs.Resuming.{IsWhyBad}
 use Rattle.wh_resume.specs.Judging.{RunsBehind, IsBadBehind}
 use Rattle.wh_resume.proofs.Going.{cut_two, two_and_more, bad_behind, ends_behind}
@@ -46,7 +46,7 @@ use Rattle.wh_resume.proofs.Walks.{not_unopened}
 -- ---- the state
 pub opens_of : (site : Site) (text : List ℕ) (begun : Begun) (b : IsBegun site text begun) → LogOpens b.front.clock (map (λ (seat : Seat). seat.slots) b.front.seats)
 opens_of site text begun b =
-    let fits = b.is_front.sound.fits in
+    let fits = b.is_front.fits in
     let count = length-map b.front.seats (λ (seat : Seat). seat.slots) in
     record {
       clock_fits = fits.clock;
@@ -55,14 +55,14 @@ opens_of site text begun b =
       each = recursion_from_All IsSlots (map (λ (seat : Seat). seat.slots) b.front.seats) b.slots;
     }
 
-pub begins_of : (site : Site) (text : List ℕ) (begun : Begun) → IsBegun site text begun → IsBeginningOnTheirWays site (state_in begun.parts)
+pub begins_of : (site : Site) (text : List ℕ) (begun : Begun) → IsBegun site text begun → IsBeginning site (state_in begun.parts)
 begins_of site text begun b =
-    subst (λ (s : State). IsBeginningOnTheirWays site s) (sym b.state) (record { beginning = b.is_front.sound.beginning; on_their_ways = b.is_front.on_their_ways })
+    subst (λ (s : State). IsBeginning site s) (sym b.state) b.is_front.beginning
 
 pub stands_of : (site : Site) (text : List ℕ) (begun : Begun) (keeper : Kept) (b : IsBegun site text begun) → keeper.judge ≡ record { site = site; state = state_in begun.parts } → keeper.is_given ≡ true
     → keeper.content ≡ record { clock = begun.parts.clock; slots = begun.parts.slots.items; entries = [] } → StandsAt site (state_told b.front) keeper
 stands_of site text begun keeper b judge given content = record {
-  layout = b.is_front.sound.beginning.layout;
+  layout = b.is_front.beginning.layout;
   judge = judge ∙ ap (λ (s : State). let j : Judged = record { site = site; state = s } in j) b.state;
   given = given;
   content = content ∙ ap (λ (s : State). let c : Content = record { clock = s.clock; slots = s.slots; entries = [] } in c) b.state;
@@ -226,7 +226,7 @@ pub ends_so : (site : Site) (text : List ℕ) (begun : Begun) (b : IsBegun site 
     → (begun.head ≤ bytes) × EndsBefore text (begun.preface.lines + (line - 2)) (begun.front + (bytes - begun.head)) × (begun.front + (bytes - begun.head) < 2 ^ 63)
 ends_so site text begun b line bytes three e =
     let slots = map (λ (seat : Seat). seat.slots) b.front.seats in
-    let so = ends_behind b.front b.front.clock slots b.rest begun.log.items line bytes b.is_front.sound.fits (opens_of site text begun b) b.log three e in
+    let so = ends_behind b.front b.front.clock slots b.rest begun.log.items line bytes b.is_front.fits (opens_of site text begun b) b.log three e in
     let count : length (front_text b.front) + (bytes - length (first_two_lines b.front.clock slots)) ≡ begun.front + (bytes - begun.head) = omega (arith, b.bytes, b.two) in
     let lines : length (front_lines b.front) + (line - 2) ≡ begun.preface.lines + (line - 2) = omega (arith, b.preface.lines_are) in
     let ends : EndsBefore text (begun.preface.lines + (line - 2)) (begun.front + (bytes - begun.head)) =

@@ -8,10 +8,9 @@ use Rattle.std.proofs.Math.Seq.{take-append_seam}
 use Rattle.wh_grid.specs.Grids.{Floor}
 use Rattle.wh_points.specs.Points.{Layout, Site}
 use Rattle.wh_core.specs.States.{State}
-use Rattle.wh_core.specs.Laws.{AllOnTheirWays, IsOnItsWay}
 use Rattle.wh_state.specs.Columns.{state_in}
 use Rattle.wh_state.specs.declared.parts.StateParts.{StateParts}
-use Rattle.wh_stand.specs.Ways.{site_at, IsFirstStray}
+use Rattle.wh_stand.specs.Ways.{site_at}
 use Rattle.wh_log.specs.Logs.{IsSlots}
 use Rattle.wh_front.specs.declared.rules.Rules.{Rules}
 use Rattle.wh_front.specs.declared.front.Front.{Front}
@@ -26,7 +25,7 @@ use Rattle.wh_log.specs.declared.fault.NoMemory.{NoMemory}
 use Rattle.wh_resume.specs.declared.looking.Begun.{Begun}
 use Rattle.wh_resume.specs.declared.looking.Looked.{Looked}
 use Rattle.wh_resume.specs.declared.looking.Looked.TheVariants as looked
-use Rattle.wh_resume.specs.Behind.{IsVersionThree, IsFrontOnTheirWays}
+use Rattle.wh_resume.specs.Behind.{IsVersionThree}
 use Rattle.wh_resume.specs.Looking.{IsFirstOdd, IsOfFront, LooksAt, Looks, lines_to_agents}
 use Rattle.wh_resume.proofs.FrontLaws.{seat_there, agent_place, count_lines, told_homes}
 
@@ -47,8 +46,8 @@ told_of : (grid : Floor) (layout : Layout) (homes : Bool) (text : List ℕ) (tol
 told_of grid layout homes text told r front k = ap (λ (rules : Rules). are_told rules.homes rules.age) k.sound.rules_are ∙ told_homes homes
 
 begun_so : (grid : Floor) (layout : Layout) (homes : Bool) (text : List ℕ) (told : List ℕ) (r : Restored) (front : Front) (begun : Begun) → Known grid layout homes text told r front
-    → AllOnTheirWays (site_at grid layout homes) (state_in r.state) → All IsSlots r.state.slots.items → IsOfFront homes told r begun → Looks (site_at grid layout homes) text (looked.Begun begun)
-begun_so grid layout homes text told r front begun k on slots of =
+    → All IsSlots r.state.slots.items → IsOfFront homes told r begun → Looks (site_at grid layout homes) text (looked.Begun begun)
+begun_so grid layout homes text told r front begun k slots of =
     let state = k.restored.state in
     let paths : length r.state.paths.items ≡ length front.seats = ap (λ (s : State). length s.paths) state ∙ length-map front.seats (λ (seat : Seat). seat.path) in
     let tasks : length r.state.tasks.items ≡ length front.tasks = ap (λ (s : State). length s.tasks) state ∙ length-map front.tasks (λ submission. submission.task) in
@@ -56,7 +55,7 @@ begun_so grid layout homes text told r front begun k on slots of =
     let bytes : begun.front ≡ length (front_text front) = omega (arith, of.front, ap length k.size, ap length k.text_is, length-append (front_text front) r.rest.now) in
     record {
       front = front;
-      is_front = record { sound = k.sound; on_their_ways = subst (λ (s : State). AllOnTheirWays (site_at grid layout homes) s) state on };
+      is_front = k.sound;
       slots = subst (λ (s : State). All IsSlots s.slots) state slots;
       rest = r.rest.now;
       text_is = k.text_is;
@@ -74,56 +73,39 @@ begun_so grid layout homes text told r front begun k on slots of =
     }
 
 looks_by : (grid : Floor) (layout : Layout) (homes : Bool) (text : List ℕ) (told : List ℕ) (r : Restored) (front : Front) (said : Looked) → Known grid layout homes text told r front → IsVersionThree text
-    → LooksAt layout homes told r said → Looks (site_at grid layout homes) text said
-looks_by grid layout homes text told r front (looked.Begun begun) k three is = begun_so grid layout homes text told r front begun k (is.0 grid) is.1 is.2
+    → LooksAt homes told r said → Looks (site_at grid layout homes) text said
+looks_by grid layout homes text told r front (looked.Begun begun) k three is = begun_so grid layout homes text told r front begun k is.0 is.1
 looks_by grid layout homes text told r front (looked.Flawed line reason) k three is =
     let state = k.restored.state in
-    let odd : IsFirstOdd (map (λ (seat : Seat). seat.slots) front.seats) is.2.0 = subst (λ (s : State). IsFirstOdd s.slots is.2.0) state is.2.1 in
-    let seat = seat_there front.seats is.2.0 (omega (arith, odd.known, length-map front.seats (λ (seat : Seat). seat.slots))) in
+    let odd : IsFirstOdd (map (λ (seat : Seat). seat.slots) front.seats) is.1.0 = subst (λ (s : State). IsFirstOdd s.slots is.1.0) state is.1.1 in
+    let seat = seat_there front.seats is.1.0 (omega (arith, odd.known, length-map front.seats (λ (seat : Seat). seat.slots))) in
     record {
       version = three;
       why = inr (
         is.0,
         record {
           front = front;
-          is_front = record { sound = k.sound; on_their_ways = subst (λ (s : State). AllOnTheirWays (site_at grid layout homes) s) state (is.1 grid) };
+          is_front = k.sound;
           rest = r.rest.now;
           text_is = k.text_is;
-          agent = is.2.0;
+          agent = is.1.0;
           seat = seat.0;
           seat_is = seat.1;
-          place = lines_to_agents homes + is.2.0;
-          place_is = agent_place front homes is.2.0 seat.0 (told_of grid layout homes text told r front k) seat.1;
-          line_is = is.2.2;
-          odd = subst (λ (n : ℕ). IsSlots n → ⊥) (slots_read front.seats is.2.0 seat.0 seat.1) odd.odd;
+          place = lines_to_agents homes + is.1.0;
+          place_is = agent_place front homes is.1.0 seat.0 (told_of grid layout homes text told r front k) seat.1;
+          line_is = is.1.2;
+          odd = subst (λ (n : ℕ). IsSlots n → ⊥) (slots_read front.seats is.1.0 seat.0 seat.1) odd.odd;
           earlier = λ other one before there. subst (λ (n : ℕ). IsSlots n) (slots_read front.seats other one there) (odd.earlier other before);
         },
       );
     }
-looks_by grid layout homes text told r front (looked.Stray line agent) k three is =
-    let state = k.restored.state in
-    let first : IsFirstStray (site_at grid layout homes) (state_told front) agent = subst (λ (s : State). IsFirstStray (site_at grid layout homes) s agent) state (is.0 grid) in
-    let seat = seat_there front.seats agent (omega (arith, first.known, length-map front.seats (λ (seat : Seat). seat.path))) in
-    record {
-      front = front;
-      sound = k.sound;
-      rest = r.rest.now;
-      text_is = k.text_is;
-      seat = seat.0;
-      seat_is = seat.1;
-      place = lines_to_agents homes + agent;
-      place_is = agent_place front homes agent seat.0 (told_of grid layout homes text told r front k) seat.1;
-      line_is = is.1;
-      stray = first.stray;
-      earlier = first.earlier;
-    }
 
 looks_so : (grid : Floor) (layout : Layout) (homes : Bool) (text : List ℕ) (told : List ℕ) (r : Restored) (front : Front) (said : Looked) → IsSoundFront (site_at grid layout homes) (record { homes = homes; age = None }) front
-    → text ≡ front_text front ++ r.rest.now → IsRestored front r → told ≡ text → length text < 2 ^ 63 → IsVersionThree text → LooksAt layout homes told r said → Looks (site_at grid layout homes) text said
+    → text ≡ front_text front ++ r.rest.now → IsRestored front r → told ≡ text → length text < 2 ^ 63 → IsVersionThree text → LooksAt homes told r said → Looks (site_at grid layout homes) text said
 looks_so grid layout homes text told r front said sound parts restored size room three is =
     looks_by grid layout homes text told r front said (record { sound = sound; text_is = parts; restored = restored; size = size; room = room }) three is
 
 pub looks_result : (grid : Floor) (layout : Layout) (homes : Bool) (text : List ℕ) (told : List ℕ) (r : Restored) (front : Front) (said : Result Looked NoMemory) → IsSoundFront (site_at grid layout homes) (record { homes = homes; age = None }) front
-    → text ≡ front_text front ++ r.rest.now → IsRestored front r → told ≡ text → length text < 2 ^ 63 → IsVersionThree text → IfOk said (LooksAt layout homes told r) → IfOk said (Looks (site_at grid layout homes) text)
+    → text ≡ front_text front ++ r.rest.now → IsRestored front r → told ≡ text → length text < 2 ^ 63 → IsVersionThree text → IfOk said (LooksAt homes told r) → IfOk said (Looks (site_at grid layout homes) text)
 looks_result grid layout homes text told r front (Ok said) sound parts restored size room three is = looks_so grid layout homes text told r front said sound parts restored size room three is
 looks_result grid layout homes text told r front (Err fault) sound parts restored size room three is = tt

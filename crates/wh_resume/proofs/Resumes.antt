@@ -8,7 +8,6 @@ use Rattle.wh_points.specs.Points.{Site}
 use Rattle.wh_words.specs.Lines.{text_of}
 use Rattle.wh_text.specs.Lines.{IsLine}
 use Rattle.wh_core.specs.States.{State}
-use Rattle.wh_core.specs.Laws.{IsOnItsWay}
 use Rattle.wh_log.specs.declared.version.Version.TheVariants.{Two}
 use Rattle.wh_log.specs.Logs.{Content, IsSlots, Opens, head_line, start_line}
 use Rattle.wh_log.specs.FirstBad.{IsFirstBad, Begins}
@@ -29,7 +28,7 @@ use Rattle.wh_restore.specs.FirstFlawed.{IsFirstFlawed}
 use Rattle.wh_resume.specs.declared.recovery.Resumed.{Resumed}
 use Rattle.wh_resume.specs.declared.recovery.Recovery.{Recovery}
 use Rattle.wh_resume.specs.declared.recovery.Recovery.TheVariants as told
-use Rattle.wh_resume.specs.Behind.{IsVersionThree, IsFrontOnTheirWays, IsRunFrom, HasOddSlots, rules_of}
+use Rattle.wh_resume.specs.Behind.{IsVersionThree, IsFrontOf, IsRunFrom, HasOddSlots, rules_of}
 use Rattle.wh_resume.specs.Resuming.{IsRunOf, EndsBefore, IsWhyBad, Tells, FrontsAreResumed}
 use Rattle.wh_resume.proofs.Versions.{no_log_begins}
 use Rattle.wh_resume.proofs.Going.{bad_behind, cut_lines, lines_are, two_and_more}
@@ -48,7 +47,7 @@ opens_so site opening text begins =
     let log = begins.whole in
     subst (λ (ns : List ℕ). Opens opening.clock ns) log.holds.slots_are (subst (λ (n : ℕ). Opens n log.content.slots) log.holds.clock_is log.is.fits.opens)
 
-good_lines : (site : Site) (front : Front) (rest text : List ℕ) (line bytes number : ℕ) → IsFrontOnTheirWays site front → text ≡ front_text front ++ rest
+good_lines : (site : Site) (front : Front) (rest text : List ℕ) (line bytes number : ℕ) → IsFrontOf site front → text ≡ front_text front ++ rest
     → IsFirstBad (IsRunFrom site (state_told front)) (first_two_lines front.clock (map (λ (seat : Seat). seat.slots) front.seats) ++ rest) number → line + 2 ≡ number + length (front_lines front)
     → EndsBefore text line bytes → Good site front (take bytes text)
 good_lines site front rest text line bytes number is parts bad counted e =
@@ -69,7 +68,7 @@ good_lines site front rest text line bytes number is parts bad counted e =
         let count : length lines ≡ length (front_lines front) + length more = length-append (map front_line (front_lines front)) more ∙ ap (λ (n : ℕ). n + length more) (length-map (front_lines front) front_line) in
         let whole : text ≡ text_of lines ++ behind =
         parts ∙ ap (λ (t : List ℕ). front_text front ++ t) (sym cut.2) ∙ sym (append_assoc (front_text front) (text_of more) behind) ∙ ap (λ (t : List ℕ). t ++ behind) (sym joined) in
-        let same : e.before ≡ lines = same_lines e.before lines e.rest behind e.lines (all_append IsLine (map front_line (front_lines front)) more (lines_are (front_lines front) (front_fit front is.sound.fits)) all.1.1)
+        let same : e.before ≡ lines = same_lines e.before lines e.rest behind e.lines (all_append IsLine (map front_line (front_lines front)) more (lines_are (front_lines front) (front_fit front is.fits)) all.1.1)
         (omega (arith, e.place, place, counted, count)) (sym e.parts ∙ whole) in
         record {
           slots = All-from_recursion IsSlots slots opens.each;
@@ -85,31 +84,26 @@ begun_is_resumed : (site : Site) (other text : List ℕ) (before : List (List �
 begun_is_resumed site other text before (told.Resumed r) h two is begins not t = (r, refl)
 begun_is_resumed site other text before (told.Unopened setting) h two is begins not t = absurd (not_unopened before [] h two (subst (λ (x : List ℕ). IsUnopened x) is t.0))
 begun_is_resumed site other text before (told.Flawed line reason) h two is begins not t = absurd (not t.version)
-begun_is_resumed site other text before (told.Stray line agent) h two is begins not t = absurd (not (front_three t.front t.rest text t.text_is))
 begun_is_resumed site other text before (told.Bad line bytes) h two is begins not (e, inl breaks) = absurd (breaks.never begins)
 begun_is_resumed site other text before (told.Bad line bytes) h two is begins not (e, inr (inl behind)) = absurd (not (front_three behind.front behind.rest text behind.text_is))
 begun_is_resumed site other text before (told.Bad line bytes) h two is begins not (e, inr (inr otherwise)) = absurd (not_unopened before [] h two (subst (λ (x : List ℕ). IsUnopened x) is otherwise.unopened))
 
 -- ---- a log that begins with a state
 -- where a run begins behind a front, it is found
-goes_is_resumed : (site : Site) (other text rest : List ℕ) (front : Front) (said : Recovery) → IsFrontOnTheirWays site front → All IsSlots (map (λ (seat : Seat). seat.slots) front.seats) → text ≡ front_text front ++ rest
+goes_is_resumed : (site : Site) (other text rest : List ℕ) (front : Front) (said : Recovery) → IsFrontOf site front → All IsSlots (map (λ (seat : Seat). seat.slots) front.seats) → text ≡ front_text front ++ rest
     → Begins (IsRunFrom site (state_told front)) (first_two_lines front.clock (map (λ (seat : Seat). seat.slots) front.seats) ++ rest) → Tells site other text said → (r : Resumed) × (said ≡ told.Resumed r)
 goes_is_resumed site other text rest front (told.Resumed r) is slots parts begins t = (r, refl)
 goes_is_resumed site other text rest front (told.Unopened setting) is slots parts begins t = absurd (front_opened front rest text parts t.0)
 goes_is_resumed site other text rest front (told.Flawed line reason) is slots parts begins t = absurd (not_flawed t.why)
   where
     not_flawed : IsFirstFlawed site (rules_of site) text line reason ⊎ ((reason ≡ reasons.Form) × HasOddSlots site text line) → ⊥
-    not_flawed (inl flawed) = flawed.none front rest is.sound parts
+    not_flawed (inl flawed) = flawed.none front rest is parts
     not_flawed (inr odd) =
-        let same = one_front odd.1.front front odd.1.rest rest odd.1.is_front.sound.fits is.sound.fits (sym odd.1.text_is ∙ parts) in
+        let same = one_front odd.1.front front odd.1.rest rest odd.1.is_front.fits is.fits (sym odd.1.text_is ∙ parts) in
         odd.1.odd (slots_at front.seats odd.1.agent odd.1.seat (subst (λ (f : Front). slice_get f.seats odd.1.agent ≡ Some odd.1.seat) same.0 odd.1.seat_is) slots)
-goes_is_resumed site other text rest front (told.Stray line agent) is slots parts begins t =
-    let same = one_front t.front front t.rest rest t.sound.fits is.sound.fits (sym t.text_is ∙ parts) in
-    let known : agent < length front.seats = seat_known front.seats agent t.seat (subst (λ (f : Front). slice_get f.seats agent ≡ Some t.seat) same.0 t.seat_is) in
-    absurd (subst (λ (f : Front). IsOnItsWay site (state_told f) agent → ⊥) same.0 t.stray (is.on_their_ways agent (omega (arith, known, length-map front.seats (λ (seat : Seat). seat.path)))))
 goes_is_resumed site other text rest front (told.Bad line bytes) is slots parts begins (e, inl breaks) = absurd (breaks.version (front_three front rest text parts))
 goes_is_resumed site other text rest front (told.Bad line bytes) is slots parts begins (e, inr (inl behind)) =
-    let same = one_front behind.front front behind.rest rest behind.is_front.sound.fits is.sound.fits (sym behind.text_is ∙ parts) in
+    let same = one_front behind.front front behind.rest rest behind.is_front.fits is.fits (sym behind.text_is ∙ parts) in
     let B : Front → List ℕ → Type 0 = λ f x. Begins (IsRunFrom site (state_told f)) (first_two_lines f.clock (map (λ (seat : Seat). seat.slots) f.seats) ++ x) → ⊥ in
     absurd (subst (λ (x : List ℕ). B front x) same.1 (subst (λ (f : Front). B f behind.rest) same.0 behind.never) begins)
 goes_is_resumed site other text rest front (told.Bad line bytes) is slots parts begins (e, inr (inr otherwise)) = absurd (front_opened front rest text parts otherwise.unopened)

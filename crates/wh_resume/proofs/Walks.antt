@@ -46,7 +46,6 @@ pub other_told : (site : Site) (begun text : List ℕ) (said : Recovery) → Tel
 other_told site begun text (told.Resumed r) t unopened other = absurd t
 other_told site begun text (told.Unopened setting) t unopened other = absurd t
 other_told site begun text (told.Flawed line reason) t unopened other = absurd t
-other_told site begun text (told.Stray line agent) t unopened other = absurd t
 other_told site begun text (told.Bad line bytes) t unopened other = (t, inr (inr (record { unopened = unopened; other = other })))
 
 -- where two lines stand whole a run was begun

@@ -4,7 +4,6 @@ use Rattle.wh_points.specs.Points.{Site}
 use Rattle.wh_words.specs.Lines.{text_of}
 use Rattle.wh_core.specs.States.{State}
 use Rattle.wh_core.specs.Steps.{Run}
-use Rattle.wh_core.specs.Laws.{AllOnTheirWays, IsOnItsWay}
 use Rattle.wh_judge.specs.Drafts.{Seen}
 use Rattle.wh_event.specs.declared.entry.Entry.{Entry}
 use Rattle.wh_log.specs.Spelling.{entry_line}
@@ -43,10 +42,9 @@ entries_told entries = text_of (map entry_line entries)
 abbrev pub content_of : Seen → Content
 content_of book = record { clock = book.opening.clock; slots = book.opening.slots; entries = book.history }
 
--- a front of a sound state at which all are on their ways
-pub record IsFrontOnTheirWays (site : Site) (front : Front) : Type 0 where
-  pub sound : IsSoundFront site (rules_of site) front
-  pub on_their_ways : AllOnTheirWays site (state_told front)
+-- a front of a sound state over the site
+abbrev pub IsFrontOf : Site → Front → Type 0
+IsFrontOf site front = IsSoundFront site (rules_of site) front
 
 -- what the front tells beside the state
 pub record IsPrefaceOf (front : Front) (preface : Preface) : Type 0 where
@@ -59,7 +57,7 @@ pub record IsPrefaceOf (front : Front) (preface : Preface) : Type 0 where
 -- it is ended, the end line. The book began with the state that the front tells.
 pub record GoesOnBehind (site : Site) (text : List ℕ) (bytes : ℕ) (is_ended : Bool) (preface : Preface) (book : Seen) : Type 0 where
   pub front : Front
-  pub is_front : IsFrontOnTheirWays site front
+  pub is_front : IsFrontOf site front
   pub fits : FitsLog Two (content_of book)
   pub rest : List ℕ
   pub text_is : text ≡ (front_text front ++ entries_told book.history) ++ rest
@@ -80,7 +78,7 @@ pub record IsRunFrom (site : Site) (opening : State) (content : Content) : Type 
 -- front such a log is one of version 2 with its first two lines in place of the front.
 pub record BreaksOffBehind (site : Site) (text : List ℕ) (line : ℕ) : Type 0 where
   pub front : Front
-  pub is_front : IsFrontOnTheirWays site front
+  pub is_front : IsFrontOf site front
   pub rest : List ℕ
   pub text_is : text ≡ front_text front ++ rest
   pub number : ℕ
@@ -88,25 +86,11 @@ pub record BreaksOffBehind (site : Site) (text : List ℕ) (line : ℕ) : Type 0
   pub never : Begins (IsRunFrom site (state_told front)) (first_two_lines front.clock (map (λ (seat : Seat). seat.slots) front.seats) ++ rest) → ⊥
   pub line_is : line + 2 ≡ number + length (front_lines front)
 
--- The text begins with a front of a sound state, in which this is the first agent that is not on its way, and this is its line.
-pub record HasStray (site : Site) (text : List ℕ) (line agent : ℕ) : Type 0 where
-  pub front : Front
-  pub sound : IsSoundFront site (rules_of site) front
-  pub rest : List ℕ
-  pub text_is : text ≡ front_text front ++ rest
-  pub seat : Seat
-  pub seat_is : slice_get front.seats agent ≡ Some seat
-  pub place : ℕ
-  pub place_is : slice_get (front_lines front) place ≡ Some (lines.Agent seat)
-  pub line_is : line ≡ place + 1
-  pub stray : IsOnItsWay site (state_told front) agent → ⊥
-  pub earlier : (other : ℕ) → other < agent → IsOnItsWay site (state_told front) other
-
--- The text begins with a front of a sound state at which all are on their ways. This is the line of the first agent whose planner has
+-- The text begins with a front of a sound state. This is the line of the first agent whose planner has
 -- fewer than 2 slots or more than 64: no log begins so.
 pub record HasOddSlots (site : Site) (text : List ℕ) (line : ℕ) : Type 0 where
   pub front : Front
-  pub is_front : IsFrontOnTheirWays site front
+  pub is_front : IsFrontOf site front
   pub rest : List ℕ
   pub text_is : text ≡ front_text front ++ rest
   pub agent : ℕ

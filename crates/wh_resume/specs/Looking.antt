@@ -1,10 +1,7 @@
 -- what is found of the front of a log of version 3
 use Rattle.std.specs.Prelude.{◌≡◌, ℕ, ◌+◌, ◌<◌, ◌≤◌, ◌^◌, Bool, true, false, List, [], ◌++◌, map, length, take, Option, IfSome, All, slice_index_or}
-use Rattle.wh_grid.specs.Grids.{Floor}
-use Rattle.wh_points.specs.Points.{Layout, Site, IsLayout}
+use Rattle.wh_points.specs.Points.{Site, IsLayout}
 use Rattle.wh_resume.specs.Keeping.{Kept}
-use Rattle.wh_core.specs.Laws.{AllOnTheirWays}
-use Rattle.wh_stand.specs.Ways.{IsFirstStray, site_at}
 use Rattle.wh_log.specs.Logs.{IsSlots}
 use Rattle.wh_front.specs.declared.front.Front.{Front}
 use Rattle.wh_front.specs.declared.front.Seat.{Seat}
@@ -14,7 +11,7 @@ use Rattle.wh_restore.specs.Heads.{first_two_lines}
 use Rattle.wh_restore.specs.SoundFronts.{state_told}
 use Rattle.wh_restore.specs.declared.reason.Reason.TheVariants as reasons
 use Rattle.wh_restore.specs.declared.restored.Restored.{Restored}
-use Rattle.wh_resume.specs.Behind.{IsFrontOnTheirWays, IsPrefaceOf, IsFlawed, HasStray}
+use Rattle.wh_resume.specs.Behind.{IsFrontOf, IsPrefaceOf, IsFlawed}
 use Rattle.wh_resume.specs.Resuming.{IsFront}
 use Rattle.wh_resume.specs.declared.looking.Begun.{Begun}
 use Rattle.wh_resume.specs.declared.looking.Looked.{Looked}
@@ -47,21 +44,17 @@ pub record IsOfFront (homes : Bool) (text : List ℕ) (restored : Restored) (beg
   pub log : begun.log.items ≡ first_two_lines restored.state.clock restored.state.slots.items ++ restored.rest.now
   pub two : begun.head ≡ length (first_two_lines restored.state.clock restored.state.slots.items)
 
--- What is found of a state that was restored: the first agent that is not on its way; else the first planner whose slots are out of range;
--- else what is made ready to go on. A line is that of its agent.
-abbrev pub LooksAt : Layout → (homes : Bool) → (text : List ℕ) → Restored → Looked → Type 0
-LooksAt layout homes text restored (looked.Begun begun) =
-    ((grid : Floor) → AllOnTheirWays (site_at grid layout homes) (state_in restored.state)) × All IsSlots restored.state.slots.items × IsOfFront homes text restored begun
-LooksAt layout homes text restored (looked.Flawed line reason) =
-    (reason ≡ reasons.Form) × ((grid : Floor) → AllOnTheirWays (site_at grid layout homes) (state_in restored.state))
-    × ((agent : ℕ) × IsFirstOdd restored.state.slots.items agent × (line ≡ lines_to_agents homes + agent + 1))
-LooksAt layout homes text restored (looked.Stray line agent) =
-    ((grid : Floor) → IsFirstStray (site_at grid layout homes) (state_in restored.state) agent) × (line ≡ lines_to_agents homes + agent + 1)
+-- What is found of a state that was restored: the first planner whose slots are out of range, at the line of its agent; else what is made
+-- ready to go on.
+abbrev pub LooksAt : (homes : Bool) → (text : List ℕ) → Restored → Looked → Type 0
+LooksAt homes text restored (looked.Begun begun) = All IsSlots restored.state.slots.items × IsOfFront homes text restored begun
+LooksAt homes text restored (looked.Flawed line reason) =
+    (reason ≡ reasons.Form) × ((agent : ℕ) × IsFirstOdd restored.state.slots.items agent × (line ≡ lines_to_agents homes + agent + 1))
 
--- The text begins with a front of a sound state at which all are on their ways, and all that is told of it is so.
+-- The text begins with a front of a sound state, and all that is told of it is so.
 pub record IsBegun (site : Site) (text : List ℕ) (begun : Begun) : Type 0 where
   pub front : Front
-  pub is_front : IsFrontOnTheirWays site front
+  pub is_front : IsFrontOf site front
   pub slots : All IsSlots (map (λ (seat : Seat). seat.slots) front.seats)
   pub rest : List ℕ
   pub text_is : text ≡ front_text front ++ rest
@@ -76,7 +69,6 @@ pub record IsBegun (site : Site) (text : List ℕ) (begun : Begun) : Type 0 wher
 abbrev pub Looks : Site → List ℕ → Looked → Type 0
 Looks site text (looked.Begun begun) = IsBegun site text begun
 Looks site text (looked.Flawed line reason) = IsFlawed site text line reason
-Looks site text (looked.Stray line agent) = HasStray site text line agent
 
 -- the judge stands at the state of a front, with which some text begins, and was told nothing
 pub record IsReady (keeper : Kept) (begun : Begun) : Type 0 where

@@ -108,10 +108,6 @@ pub(crate) fn recover_three(
             drop(setting);
             Ok(Recovery::Flawed { line, reason })
         }
-        Ok(Looked::Stray { line, agent }) => {
-            drop(setting);
-            Ok(Recovery::Stray { line, agent })
-        }
         Err(NoMemory) => {
             drop(setting);
             Err(SourceFault::NoMemory)

@@ -163,6 +163,5 @@ fn verify_three(
             said
         }
         Looked::Flawed { line, .. } => Ok(bad(line)),
-        Looked::Stray { line, .. } => Ok(bad(line)),
     }
 }

@@ -18,12 +18,12 @@ use wh_grid::Grid;
 use wh_log::{NoMemory, begun_text};
 use wh_points::Points;
 use wh_restore::{Reason, RestoreFault, Restored, restore};
-use wh_stand::{StateParts, first_stray};
+use wh_stand::StateParts;
 
 /// A run that begins with the state of a front.
 #[derive(Drop)]
 pub(crate) struct Begun {
-    /// The state, at which all are on their ways.
+    /// The state.
     pub parts: StateParts,
     /// What the front tells beside it.
     pub preface: Preface,
@@ -42,8 +42,6 @@ pub(crate) enum Looked {
     Begun(Begun),
     /// The first line with a flaw.
     Flawed { line: u64, reason: Reason },
-    /// The line of the first agent that is not on its way.
-    Stray { line: u64, agent: u32 },
 }
 
 /// How many lines of a front stand before those of its agents.
@@ -111,17 +109,10 @@ fn look_at_state(
 ) -> Result<Looked, NoMemory>
     requires begins { (grid : Floor) × IsBeginning (site_at grid points.now homes) (state_in restored.state) }
     requires bytes { length restored.rest.now ≤ length text.now }
-    ensures { IfOk result (LooksAt points.now homes text.now restored.entry) }
+    ensures { IfOk result (LooksAt homes text.now restored.entry) }
 {
     let before = before_agents(homes);
     let _agents = points.agents();
-    if let Some(agent) = first_stray(points, homes, &restored.state) {
-        drop(restored);
-        return Ok(Looked::Stray {
-            line: before + u64::from(agent) + 1,
-            agent,
-        });
-    }
     if let Some(agent) = first_odd(restored.state.slots.as_slice()) {
         drop(restored);
         return Ok(Looked::Flawed {

@@ -53,9 +53,6 @@ pub enum Recovery {
     /// A log of version 3 with no front of a sound state: the first line of it that has a flaw, from 1, and its first flaw.
     /// Slots outside 2 to 64 are a flaw of form.
     Flawed { line: u64, reason: Reason },
-    /// A log of version 3 whose front tells a sound state, and the first agent that is not on its way in it, with the number
-    /// of its line.
-    Stray { line: u64, agent: u32 },
     /// No beginning of such a log: the first line, from 1, that is not in the format or whose entry is no step, or that is
     /// not whole and is not as it was to be written. The lines before it are good, and are this many bytes.
     Bad { line: u64, bytes: usize },

@@ -6,13 +6,12 @@ use Rattle.std.specs.Io.KnownBytes.{Appends}
 use Rattle.std.proofs.KnownBytes.{Keeps-refl}
 use Rattle.wh_grid.specs.Grids.{Floor}
 use Rattle.wh_points.specs.Points.{Site}
-use Rattle.wh_points.specs.Formed.{IsFormed}
 use Rattle.wh_lines.specs.Input.{Input}
 use Rattle.wh_replay.specs.declared.asker.Asker.{Asker}
 use Rattle.wh_core.specs.States.{State}
-use Rattle.wh_core.specs.Laws.{IsBeginningOnTheirWays, IsOpening}
+use Rattle.wh_core.specs.Laws.{IsBeginning, IsOpening}
 use Rattle.wh_core.specs.Steps.{Run}
-use Rattle.wh_judge.specs.Drafts.{AllServed, Seen}
+use Rattle.wh_judge.specs.Drafts.{AllServed, Seen, HasWaysForAll}
 use Rattle.wh_drive.specs.Drives.{Drive}
 use Rattle.wh_dispatch.specs.Crews.{Crew}
 use Rattle.wh_dispatch.specs.SettingOut.{SomeInStep}
@@ -66,7 +65,7 @@ module _ {X : Type 0} (fits : X → Floor → Bool) (count : X → ℕ) (asker :
 module _ {X : Type 0} (fits : X → Floor → Bool) (count : X → ℕ) (asker : Asker) (again : Option ℕ) (bound : ℕ) (before after : Input) (start : Start) (stands : Stood) (spares rest : List X)
     (some : SomeInStep start.book stands.order) (final : Seen) (crew : Crew) (had replied : Option (List ℕ)) (files holds synced : Held)
     (runs : RidesOn fits count asker again bound before after start stands spares final rest crew had replied files holds synced)
-    (begins : IsBeginningOnTheirWays final.site final.opening) (run : Run final.site final.opening final.history final.state) (served : IsFormed final.site → AllServed final.history) where
+    (begins : IsBeginning final.site final.opening) (run : Run final.site final.opening final.history final.state) (served : HasWaysForAll final.site final.opening → AllServed final.history) where
   pub goes_to_end : GoesToEnd fits count asker again bound before after start stands spares final crew had replied files holds synced
   goes_to_end =
       let r = runs.rides some.0 some.1 in
@@ -168,11 +167,11 @@ module _ {X : Type 0} (fits : X → Floor → Bool) (count : X → ℕ) (asker :
     set = (subst (λ (b : Option (List ℕ)). Opens b beside.after site_text) still opens, safe)
 
     -- a run that its log tells with no front began with an opening state
-    opening_on : (final : Seen) → final.site ≡ start.book.site → final.opening ≡ start.book.opening → IsBeginningOnTheirWays final.site final.opening → start.preface ≡ None → IsOpening site final.opening
+    opening_on : (final : Seen) → final.site ≡ start.book.site → final.opening ≡ start.book.opening → IsBeginning final.site final.opening → start.preface ≡ None → IsOpening site final.opening
     opening_on final site_same opening_same begins none =
-        let on_site : IsBeginningOnTheirWays site final.opening = subst (λ (at : Site). IsBeginningOnTheirWays at final.opening) (site_same ∙ start_site site (first_slots fleet site) from.text start from.starts) begins in
+        let on_site : IsBeginning site final.opening = subst (λ (at : Site). IsBeginning at final.opening) (site_same ∙ start_site site (first_slots fleet site) from.text start from.starts) begins in
         subst (λ (o : State). IsOpening site o) (sym opening_same)
-        (start_opening site (first_slots fleet site) from.text start from.starts none (subst (λ (o : State). IsBeginningOnTheirWays site o) opening_same on_site))
+        (start_opening site (first_slots fleet site) from.text start from.starts none (subst (λ (o : State). IsBeginning site o) opening_same on_site))
 
     pub serves_convoy : (left : ℕ) → GoesOn fits count used tail again n between new begun stands spares had has held holds synced left
         → ServesConvoy fits count asker gives fleet tail again anew pace old new had has files holds synced beside left

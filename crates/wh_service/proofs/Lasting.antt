@@ -12,7 +12,7 @@ use Rattle.std.proofs.lemmas.Slice.Zip.{all_zipped_more}
 use Rattle.wh_grid.specs.Grids.{Floor}
 use Rattle.wh_points.specs.Points.{Site}
 use Rattle.wh_claims.specs.declared.bank.Bank.{Bank}
-use Rattle.wh_judge.specs.Drafts.{AllServed, Seen}
+use Rattle.wh_judge.specs.Drafts.{AllServed, Seen, HasWaysForAll}
 use Rattle.wh_options.specs.declared.chosen.Fleet.{Fleet}
 use Rattle.wh_journal.specs.Journals.{ReplaysJournaled, lines_for}
 use Rattle.wh_journal.specs.Surviving.{StaysLog}
@@ -38,10 +38,9 @@ use Rattle.wh_replay.specs.declared.asker.Asker.{Asker}
 use Rattle.wh_log.specs.declared.version.Version.{Version}
 use Rattle.wh_lines.specs.Input.{Input}
 use Rattle.wh_core.specs.States.{State}
-use Rattle.wh_core.specs.Laws.{IsOpening, IsBeginningOnTheirWays}
+use Rattle.wh_core.specs.Laws.{IsOpening, IsBeginning}
 use Rattle.wh_continue.proofs.Opened.{start_opening}
 use Rattle.wh_core.specs.Steps.{Run}
-use Rattle.wh_points.specs.Formed.{IsFormed}
 use Rattle.wh_options.specs.declared.chosen.Tail.{Tail}
 use Rattle.wh_continue.specs.declared.running.RunFault.{RunFault}
 use Rattle.wh_service.specs.declared.parts.PlannerParts.{PlannerParts}
@@ -260,14 +259,14 @@ module _ {X : Type 0} (fits : X → Floor → Bool) (count : X → ℕ) (asker :
       front_is = preface_is ∙ same_preface site (first_slots fleet site) from.text start begun from.starts file held start.bytes refl opens_file
 
       -- it was, and what is to follow the replies does
-      pub serves_kept : IsBeginningOnTheirWays final.site final.opening → Run final.site final.opening final.history final.state → (IsFormed final.site → AllServed final.history)
+      pub serves_kept : IsBeginning final.site final.opening → Run final.site final.opening final.history final.state → (HasWaysForAll final.site final.opening → AllServed final.history)
           → OnOk said (Appends replied has (tail_behind preface tail final.opening final.history final.state))
           → IfOk said (λ t. report t ≡ told_open deliver final.state)
           → IfOk said (λ t. ServesKept fits count asker gives fleet deliver tail again anew old new had has file synced holds beside (report t))
       serves_kept opening run served follows tells =
           let is : final.site ≡ site = (grows deliver asker 999999999 runs.served final runs.delivers.added runs.answered replied runs.delivers.delivers).1.site ∙ runs.replays.serves.output.site ∙ start_site site (first_slots fleet site) from.text start from.starts in
           let same_opening : final.opening ≡ start.book.opening = (grows deliver asker 999999999 runs.served final runs.delivers.added runs.answered replied runs.delivers.delivers).1.opening ∙ runs.replays.serves.output.opening in
-          let begins = subst (λ (o : State). IsBeginningOnTheirWays site o) same_opening (subst (λ (at : Site). IsBeginningOnTheirWays at final.opening) is opening) in
+          let begins = subst (λ (o : State). IsBeginning site o) same_opening (subst (λ (at : Site). IsBeginning at final.opening) is opening) in
           ok_joined said _ _ _ (λ t after open_is. record {
             site = site;
             between = between;
@@ -283,10 +282,10 @@ module _ {X : Type 0} (fits : X → Floor → Bool) (count : X → ℕ) (asker :
             open_is = open_is;
             follows = subst (λ (p : Option Preface). Appends replied has (tail_behind p tail final.opening final.history final.state)) front_is after;
             site_is = is;
-            is_beginning = subst (λ (at : Site). IsBeginningOnTheirWays at final.opening) is opening;
+            is_beginning = subst (λ (at : Site). IsBeginning at final.opening) is opening;
             is_opening = λ none. subst (λ (o : State). IsOpening site o) (sym same_opening) (start_opening site (first_slots fleet site) from.text start from.starts none begins);
             run = subst (λ (at : Site). Run at final.opening final.history final.state) is run;
-            served = subst (λ (at : Site). IsFormed at → AllServed final.history) is served;
+            served = subst (λ (at : Site). HasWaysForAll at final.opening → AllServed final.history) is served;
           }) follows tells
 
       -- or does not

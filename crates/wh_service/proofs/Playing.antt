@@ -1,4 +1,6 @@
 -- What a run of the fleet's planners says when the planners are left out.
+use Rattle.wh_core.proofs.Sound.{ways-opening}
+use Rattle.wh_core.specs.Laws.{AllOnTheirWays, IsOpening}
 use Rattle.std.proofs.Common.{◌≡◌, ◌<◌, ◌≤◌, ◌^◌, ◌-◌, ℕ, Bool, true, false, true≢false, List, [], ◌∷◌, ◌++◌, length, map, replicate, refl, sym, ap, ◌∙◌, subst, arith, inl, inr, Option, Some, All, Result, IfOk, IfErr}
 use Prim.Native.Nat.{zero, suc}
 use Rattle.std.specs.List.{AllByRecursion}
@@ -133,9 +135,9 @@ opening_is fits count gives fleet site planners spares book makes range e o =
 abbrev operates : {X : Type 0} (fits : X → Floor → Bool) (count : X → ℕ) (asker : Asker) (gives : Gives X) (fleet : Fleet) (site : Site) (planners spares : List X) (lines : List (List ℕ))
     (book final : Seen) (rest : List X) (replies : List (List ℕ))
     → MakesPlanners fits count gives → IsOfFleet fleet → IsEquipped gives fleet site.grid (length site.layout.agents) planners spares
-    → IsOpened fits count site planners book → IsOutputOf fits count asker lines book spares final rest replies
+    → IsOpened fits count site planners book → IsOpening site (opening fleet site) → IsOutputOf fits count asker lines book spares final rest replies
     → Operates asker fleet site lines replies
-operates fits count asker gives fleet site planners spares lines book final rest replies makes range e o g =
+operates fits count asker gives fleet site planners spares lines book final rest replies makes range e o opens g =
     let apart = recursion_from_All (IsMember gives fleet site.grid e.bank) spares e.spares_are in
     let spares_are = slots_each fits count gives fleet site.grid e.bank spares fleet.spares makes range e.stands_by apart in
     let start = o.state ∙ opening_is fits count gives fleet site planners spares book makes range e o in
@@ -152,7 +154,11 @@ operates fits count asker gives fleet site planners spares lines book final rest
       ran = subst (λ (s : State). RanFrom asker.caller site s (replicate fleet.spares fleet.slots) (commands_of lines) g.outcomes final.state (map count rest)) start
           (subst (λ (l : List ℕ). RanFrom asker.caller site book.state l (commands_of lines) g.outcomes final.state (map count rest)) spares_are seen);
       run = subst (λ (s : State). Run site s (entries_of g.outcomes) final.state) start run;
-      served = λ formed. g.served (subst IsFormed (sym o.site_is) formed);
+      served = λ formed. g.served (record {
+        formed = subst IsFormed (sym o.site_is) formed;
+        on_their_ways = subst (λ (t : Site). AllOnTheirWays t book.opening) (sym o.site_is)
+            (subst (λ (s : State). AllOnTheirWays site s) (sym (opening_is fits count gives fleet site planners spares book makes range e o)) (ways-opening site (opening fleet site) opens));
+      });
     }
 
 -- what follows the replies of it
@@ -180,12 +186,13 @@ abbrev finishes : {X : Type 0} (fits : X → Floor → Bool) (count : X → ℕ)
     → MakesPlanners fits count gives → IsOfFleet fleet → IsEquipped gives fleet site.grid (length site.layout.agents) planners spares
     → IsOpened fits count site planners book → Replays fits count asker between new book spares final rest had has written → Finishes asker fleet old new
 finishes fits count asker gives fleet site planners spares old between new had has book final rest written low at makes range e o r =
-    let done = operates fits count asker gives fleet site planners spares (lines_of r.read) book final rest r.replies makes range e o r.output in
+    let opens = opening_read old between site (replicate (length site.layout.agents) fleet.slots) at.read (length-replicate (length site.layout.agents) fleet.slots) in
+    let done = operates fits count asker gives fleet site planners spares (lines_of r.read) book final rest r.replies makes range e o opens r.output in
     record {
       between = between;
       site = site;
       site_read = at;
-      is_opening = opening_read old between site (replicate (length site.layout.agents) fleet.slots) at.read (length-replicate (length site.layout.agents) fleet.slots);
+      is_opening = opens;
       script = r.read;
       takes = r.takes;
       ended = r.ended;
@@ -242,7 +249,8 @@ serves_until fits count asker gives fleet site planners spares fault old between
   part = p.stops.part;
   whole = p.stops.whole;
   replies = p.stops.replies;
-  operates = operates fits count asker gives fleet site planners spares (lines_of p.stops.read) p.book p.final p.rest p.stops.replies makes range e p.opened p.stops.output;
+  operates = operates fits count asker gives fleet site planners spares (lines_of p.stops.read) p.book p.final p.rest p.stops.replies makes range e p.opened
+      (opening_read old between site (replicate (length site.layout.agents) fleet.slots) at.read (length-replicate (length site.layout.agents) fleet.slots)) p.stops.output;
   writes = p.stops.writes;
   cause = p.stops.cause;
 }

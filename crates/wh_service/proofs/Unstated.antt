@@ -17,6 +17,5 @@ module _ (options : StateOptions) (site : Site) (text : List ℕ) (old new : Inp
   pub unstated : (f : HandoverFault) → IsWhyNone site text options.after f → IsWhyUnstated options (trouble_of f) old new had had file
   unstated fault.Empty why = ((site, held.site_read), Keeps-refl had)
   unstated (fault.Flawed line reason) why = (inr (none (fault.Flawed line reason) why), Keeps-refl had)
-  unstated (fault.Stray line agent) why = (inr (none (fault.Stray line agent) why), Keeps-refl had)
   unstated (fault.Bad line) why = (inr (none (fault.Bad line) why), Keeps-refl had)
   unstated fault.NoMemory why = Keeps-refl had

@@ -6,11 +6,10 @@ use Rattle.std.specs.Io.KnownBytes.{Appends, Keeps}
 use Rattle.wh_lines.specs.Input.{Input}
 use Rattle.wh_grid.specs.Grids.{Floor}
 use Rattle.wh_points.specs.Points.{Site}
-use Rattle.wh_points.specs.Formed.{IsFormed}
 use Rattle.wh_replay.specs.declared.asker.Asker.{Asker}
-use Rattle.wh_core.specs.Laws.{IsBeginningOnTheirWays, IsOpening}
+use Rattle.wh_core.specs.Laws.{IsBeginning, IsOpening}
 use Rattle.wh_core.specs.Steps.{Run}
-use Rattle.wh_judge.specs.Drafts.{AllServed, Seen}
+use Rattle.wh_judge.specs.Drafts.{AllServed, Seen, HasWaysForAll}
 use Rattle.wh_edge.specs.Site.{SiteKept, SiteFault}
 use Rattle.wh_edge.specs.Trouble.{status_of, trouble_text}
 use Rattle.wh_edge.specs.declared.trouble.Status.{Status}
@@ -104,10 +103,10 @@ pub record GoesToEnd {X : Type 0} (fits : X → Floor → Bool) (count : X → �
   -- the whole run is one of the abstract warehouse, from the state and on the site with which it began
   pub site_is : final.site ≡ start.book.site
   pub opening_is : final.opening ≡ start.book.opening
-  pub is_beginning : IsBeginningOnTheirWays final.site final.opening
+  pub is_beginning : IsBeginning final.site final.opening
   pub run : Run final.site final.opening final.history final.state
-  -- on a well-formed site no request was ever refused for lack of a path
-  pub served : IsFormed final.site → AllServed final.history
+  -- on a well-formed site, where all were on their ways as the log began, no request was ever refused for lack of a path
+  pub served : HasWaysForAll final.site final.opening → AllServed final.history
 
 -- And what must follow the replies follows them. This many vehicles are on their way then.
 pub record GoesOn {X : Type 0} (fits : X → Floor → Bool) (count : X → ℕ) (asker : Asker) (tail : Tail) (again : Option ℕ) (bound : ℕ) (before after : Input) (start : Start) (stands : Stood) (spares : List X)

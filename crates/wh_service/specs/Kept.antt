@@ -5,13 +5,12 @@ use Rattle.std.specs.Io.KnownBytes.{Appends, Keeps}
 use Rattle.wh_lines.specs.Input.{Input}
 use Rattle.wh_grid.specs.Grids.{Floor}
 use Rattle.wh_points.specs.Points.{Site}
-use Rattle.wh_points.specs.Formed.{IsFormed}
 use Rattle.wh_claims.specs.Bank.{bank_total}
 use Rattle.wh_claims.specs.declared.bank.Bank.{Bank}
 use Rattle.wh_replay.specs.declared.asker.Asker.{Asker}
-use Rattle.wh_core.specs.Laws.{IsBeginningOnTheirWays, IsOpening}
+use Rattle.wh_core.specs.Laws.{IsBeginning, IsOpening}
 use Rattle.wh_core.specs.Steps.{Run}
-use Rattle.wh_judge.specs.Drafts.{AllServed, Seen}
+use Rattle.wh_judge.specs.Drafts.{AllServed, Seen, HasWaysForAll}
 use Rattle.wh_continue.specs.Again.{CanTellAgain, IsWhyNotAgain}
 use Rattle.wh_continue.specs.Starting.{IsWhyNoStart, StartsByFile}
 use Rattle.wh_continue.specs.Besides.{HoldsOther, StandsBeside}
@@ -29,7 +28,6 @@ use Rattle.wh_continue.specs.declared.starting.StartFault.{StartFault}
 use Rattle.wh_continue.specs.declared.starting.StartFault.TheVariants as started
 use Rattle.wh_continue.specs.declared.again.AgainFault.{AgainFault}
 use Rattle.wh_continue.specs.declared.again.AgainFault.TheVariants as againfault
-use Rattle.wh_restore.specs.declared.reason.Reason.TheVariants as reasons
 use Rattle.wh_journal.specs.declared.fault.JournaledFault.{JournaledFault}
 use Rattle.wh_journal.specs.declared.fault.JournaledFault.TheVariants as journaled
 use Rattle.wh_edge.specs.Site.{SiteKept, SiteFault}
@@ -114,11 +112,11 @@ pub record ServesKept {X : Type 0} (fits : X → Floor → Bool) (count : X → 
   -- the whole run, old and new entries, is one of the abstract warehouse, from an opening state of this site, or from the state that the
   -- front of its log tells
   pub site_is : final.site ≡ site
-  pub is_beginning : IsBeginningOnTheirWays site final.opening
+  pub is_beginning : IsBeginning site final.opening
   pub is_opening : start.preface ≡ None → IsOpening site final.opening
   pub run : Run site final.opening final.history final.state
-  -- on a well-formed site no request was ever refused for lack of a path
-  pub served : IsFormed site → AllServed final.history
+  -- on a well-formed site, where all were on their ways as the log began, no request was ever refused for lack of a path
+  pub served : HasWaysForAll site final.opening → AllServed final.history
 
 -- what is told of a log file that was not begun or not ended
 abbrev pub keep_trouble : KeepFault → Trouble
@@ -153,7 +151,6 @@ IsWhyAside beside text _ = ⊥
 abbrev pub start_trouble : StartFault → Trouble
 start_trouble (started.Bad line) = trouble.Log line
 start_trouble (started.Flawed line reason) = trouble.Front reason line
-start_trouble (started.Stray line agent) = trouble.Front (reasons.Stray agent) line
 start_trouble started.Unread = trouble.Unkept
 start_trouble started.NoMemory = trouble.NoMemory
 

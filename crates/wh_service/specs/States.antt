@@ -11,7 +11,6 @@ use Rattle.wh_edge.specs.declared.trouble.Status.{Status}
 use Rattle.wh_edge.specs.declared.trouble.Status.TheVariants as status
 use Rattle.wh_front.specs.declared.front.Front.{Front}
 use Rattle.wh_front.specs.Fronts.{front_text}
-use Rattle.wh_restore.specs.declared.reason.Reason.TheVariants as reasons
 use Rattle.wh_handover.specs.declared.front.HandoverFault.{HandoverFault}
 use Rattle.wh_handover.specs.declared.front.HandoverFault.TheVariants as fault
 use Rattle.wh_handover.specs.Handing.{IsHandover, IsWhyNone}
@@ -21,7 +20,6 @@ use Rattle.wh_options.specs.declared.chosen.StateOptions.{StateOptions}
 abbrev pub trouble_of : HandoverFault → Trouble
 trouble_of fault.Empty = trouble.Unkept
 trouble_of (fault.Flawed line reason) = trouble.Front reason line
-trouble_of (fault.Stray line agent) = trouble.Front (reasons.Stray agent) line
 trouble_of (fault.Bad line) = trouble.Log line
 trouble_of fault.NoMemory = trouble.NoMemory
 

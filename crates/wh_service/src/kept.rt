@@ -28,7 +28,6 @@ use wh_grid::Grid;
 use wh_lines::Lines;
 use wh_options::{Fleet, ReplayOptions};
 use wh_planner::Planner;
-use wh_restore::Reason;
 
 /// The error of a log file that was not begun or not ended.
 pub fn keep_trouble(fault: KeepFault) -> Trouble
@@ -116,10 +115,6 @@ fn start_trouble(fault: StartFault) -> Trouble
     match fault {
         StartFault::Bad { line } => Trouble::Log { line },
         StartFault::Flawed { line, reason } => Trouble::Front { reason, line },
-        StartFault::Stray { line, agent } => Trouble::Front {
-            reason: Reason::Stray(agent),
-            line,
-        },
         StartFault::Unread => Trouble::Unkept,
         StartFault::NoMemory => Trouble::NoMemory,
     }

@@ -14,7 +14,6 @@ use wh_handover::{HandoverFault, front_after, front_text};
 use wh_lines::Lines;
 use wh_log::NoMemory;
 use wh_options::StateOptions;
-use wh_restore::Reason;
 
 /// The error of a log that tells no state to go on from.
 fn trouble_of(fault: HandoverFault) -> Trouble
@@ -23,10 +22,6 @@ fn trouble_of(fault: HandoverFault) -> Trouble
     match fault {
         HandoverFault::Empty => Trouble::Unkept,
         HandoverFault::Flawed { line, reason } => Trouble::Front { reason, line },
-        HandoverFault::Stray { line, agent } => Trouble::Front {
-            reason: Reason::Stray(agent),
-            line,
-        },
         HandoverFault::Bad { line } => Trouble::Log { line },
         HandoverFault::NoMemory => Trouble::NoMemory,
     }

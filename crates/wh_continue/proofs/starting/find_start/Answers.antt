@@ -1,6 +1,6 @@
 use Rattle.std.proofs.Common.{◌∙◌, ap}
 use Rattle.wh_continue.specs.Starting.{first_lines}
-use Rattle.wh_continue.proofs.Found.{file_goes_on, file_has_stray, file_is_bad, file_is_flawed, file_is_unbegun, file_names_other, resumed_lines, resumed_slots}
+use Rattle.wh_continue.proofs.Found.{file_goes_on, file_is_bad, file_is_flawed, file_is_unbegun, file_names_other, resumed_lines, resumed_slots}
 use Rattle.wh_continue.proofs.starting.find_start.Goals as goal
 
 pub returns-in-Bad-clause-fault : goal.returns-in-Bad-clause-fault
@@ -14,12 +14,6 @@ returns-in-Flawed-clause-fault g c =
     file_is_flawed c.args.setting c.args.slots.items c.as_slice-2.result.now (g.L.Journal.contents c.args.file.now)
     (c.as_slice-2.ensures.value ∙ c.in_ok-begun.ensures ∙ ap first_lines c.as_slice.ensures.value)
     c.in-Ok.found c.in-Flawed.line c.in-Flawed.reason c.in-Ok.ensures.told c.in-Flawed.is
-
-pub returns-in-Stray-clause-fault : goal.returns-in-Stray-clause-fault
-returns-in-Stray-clause-fault g c =
-    file_has_stray c.args.setting c.args.slots.items c.as_slice-2.result.now (g.L.Journal.contents c.args.file.now)
-    (c.as_slice-2.ensures.value ∙ c.in_ok-begun.ensures ∙ ap first_lines c.as_slice.ensures.value)
-    c.in-Ok.found c.in-Stray.line c.in-Stray.agent c.in-Ok.ensures.told c.in-Stray.is
 
 pub returns-in_ok-begin-in-Unopened-clause-ok : goal.returns-in_ok-begin-in-Unopened-clause-ok
 returns-in_ok-begin-in-Unopened-clause-ok g c =

@@ -17,7 +17,7 @@ loop-n-preserved c =
     record {
       site = c.in_ok-_is_step.ensures.site ∙ c.loop-n.invariant.site;
       run = one_more book.site book.opening book.history book.state c.loop-n.n entry c.loop-n.judge.state c.step.new.self.state c.in_ok-_is_step._is_step
-          c.history-history.ensures.opening.beginning.layout c.history-history.ensures.run below at c.loop-n.invariant.run here;
+          c.history-history.ensures.opening.layout c.history-history.ensures.run below at c.loop-n.invariant.run here;
     }
 
 pub returns : goal.returns

@@ -2,7 +2,7 @@ use Rattle.std.proofs.Common.{◌≡◌, ◌≤◌, ◌<◌, ◌+◌, ◌-◌, �
 use Rattle.wh_points.specs.Points.{Site}
 use Rattle.wh_core.specs.States.{State}
 use Rattle.wh_core.specs.Steps.{Run}
-use Rattle.wh_core.specs.Laws.{IsBeginningOnTheirWays}
+use Rattle.wh_core.specs.Laws.{IsBeginning}
 use Rattle.wh_event.specs.declared.entry.Entry.{Entry}
 use Rattle.wh_state.specs.Columns.{state_in}
 use Rattle.wh_judge.specs.Judged.{Judged}
@@ -20,7 +20,7 @@ pub at-requires : goal.at-requires
 at-requires c =
     let setting = c.args.setting in
     let is : c.with_homes-instance.result ≡ setting = c.with_homes-instance.ensures ∙ site_of setting c.grid.result.now c.points.result.now c.homes.result c.grid.ensures c.points.ensures c.homes.ensures in
-    subst (λ (s : Site). IsBeginningOnTheirWays s (state_in c.args.begun.parts)) (sym is) (begins_of setting c.requires.0 c.args.begun c.requires.1)
+    subst (λ (s : Site). IsBeginning s (state_in c.args.begun.parts)) (sym is) (begins_of setting c.requires.0 c.args.begun c.requires.1)
 
 pub follow_front-requires : goal.follow_front-requires
 follow_front-requires c =

@@ -54,4 +54,4 @@ returns-in-Bad c = λ text b.
     let bad = rw c.as_slice.ensures.value at said in
     let at = stands_ready keeper begun text b c.requires in
     let wrong = bad_ended keeper.judge.site text begun b keeper c.in-Bad.line c.line_behind.result at bad c.line_behind.ensures in
-    subst (λ (v : VerifiedFront). SaysOfThree keeper.judge.site false text v.verified v.is_ended) (sym c.bad.ensures) (inr (inr wrong))
+    subst (λ (v : VerifiedFront). SaysOfThree keeper.judge.site false text v.verified v.is_ended) (sym c.bad.ensures) (inr wrong)

@@ -64,4 +64,4 @@ returns-in-Bad c = λ text b.
     let said = subst (λ (f : Front). Recovers Opens Steps begun.log.items keeper c.follow_front.new.judge f) c.in-Bad.is log in
     let at = stands_ready keeper begun text b c.requires in
     let wrong = bad_unended keeper.judge.site text begun b keeper c.in-Bad.line c.line_behind.result at said.0 said.1 c.line_behind.ensures in
-    subst (λ (v : VerifiedFront). SaysOfThree keeper.judge.site true text v.verified v.is_ended) (sym c.bad.ensures) (inr (inr wrong))
+    subst (λ (v : VerifiedFront). SaysOfThree keeper.judge.site true text v.verified v.is_ended) (sym c.bad.ensures) (inr wrong)

@@ -1,7 +1,7 @@
 use Rattle.std.proofs.Common.{◌≡◌, ◌≤◌, ◌∙◌, List, ℕ, length, subst, inl}
 use Rattle.wh_log.specs.declared.front_log.Front.{Front}
 use Rattle.wh_log.specs.Behinds.{RecoversFrom}
-use Rattle.wh_core.proofs.Sound.{opening-may}
+use Rattle.wh_core.proofs.Sound.{opening-begins}
 use Rattle.wh_resume.specs.Keeping.{Opens, Steps}
 use Rattle.wh_resume.specs.Resuming.{IsFront, TellsOther}
 use Rattle.wh_resume.proofs.Telling.{can_open, leads_led, led_parts, site_of, tells_bad}
@@ -38,7 +38,7 @@ resume-book-requires-clause-opening g c =
     let told = c.into_parts-first_clock in
     let parts = led_parts setting said.2.0 c.follow_front.new.judge told.result.first_clock told.result.first_slots.items told.result.history.items told.result.floor.state led
     told.ensures.clock told.ensures.slots told.ensures.history told.ensures.floor in
-    opening-may setting _ parts.is_opening
+    (opening-begins setting _ parts.is_opening).0
 
 pub resume-book-requires-clause-run : goal.resume-book-requires-clause-run
 resume-book-requires-clause-run g c =

@@ -1,3 +1,5 @@
+use Rattle.wh_core.proofs.Sound.{ways-opening}
+use Rattle.wh_core.specs.Laws.{AllOnTheirWays}
 use Rattle.std.proofs.Common.{◌∙◌, inl, inr, refl, subst, sym}
 use Rattle.std.specs.Io.KnownBytes.{Appends}
 use Rattle.std.proofs.KnownBytes.{Keeps-refl}
@@ -43,6 +45,8 @@ returns-in-Ok-written-clause-ok g c =
     let r = driven g.P.Plans.fits_map g.P.Plans.slot_count (script_asker c.args.form) c.args.pace.behind c.args.pace.ahead crew.bound c.args.lines.now c.dispatch.new.lines book c.args.spares.items crew
     c.dispatch.new.warehouse.book c.dispatch.new.spares.items (g.W.Write.contents c.args.output.now) (g.W.Write.contents c.dispatch.new.writer)
     (c.in-Ok-open.ensures.bound ∙ c.from-behind.ensures) m c.dispatch.new.vehicles c.in-Ok-dispatch.ensures.ok in
+    let opens = still_opening _ _ _ _ _ _ _ _ _ _ r.dispatches c.in-Ok.ensures.opens in
+    let ways = subst (λ (b : Seen). AllOnTheirWays b.site b.opening) r.book_is (ways-opening _ _ opens) in
     record {
       final = r.final;
       replied = g.W.Write.contents c.dispatch.new.writer;
@@ -50,9 +54,10 @@ returns-in-Ok-written-clause-ok g c =
         book = book;
         opened = opened_with _ _ _ _ c.in-Ok.warehouse.planners _ c.in-Ok.ensures.site c.in-Ok.ensures.opening c.in-Ok.ensures.history c.in-Ok.ensures.planners c.in-Ok.ensures.tied;
         dispatches = r.dispatches;
-        is_opening = still_opening _ _ _ _ _ _ _ _ _ _ r.dispatches c.in-Ok.ensures.opens;
+        is_opening = opens;
         run = subst (λ (b : Seen). Run b.site b.opening b.history b.state) (sym r.book_is) c.history-history.ensures.run;
-        served = subst (λ (b : Seen). IsFormed b.site → AllServed b.history) (sym r.book_is) c.history-history.ensures.served;
+        served = subst (λ (b : Seen). IsFormed b.site → AllServed b.history) (sym r.book_is)
+            (λ formed. c.history-history.ensures.served (record { formed = formed; on_their_ways = ways }));
       };
       follows = subst (λ (b : Seen). Appends (g.W.Write.contents c.dispatch.new.writer) (g.W.Write.contents c.write_tail-written.new.output) (tail_after c.args.tail b.opening b.history b.state)) (sym r.book_is)
           c.in-Ok-written.ensures.ok;
@@ -67,6 +72,8 @@ returns-clause-fault g c =
     let r = driven g.P.Plans.fits_map g.P.Plans.slot_count (script_asker c.args.form) c.args.pace.behind c.args.pace.ahead crew.bound c.args.lines.now c.dispatch.new.lines book c.args.spares.items crew
     c.dispatch.new.warehouse.book c.dispatch.new.spares.items (g.W.Write.contents c.args.output.now) (g.W.Write.contents c.dispatch.new.writer)
     (c.in-Ok-open.ensures.bound ∙ c.from-behind.ensures) m c.dispatch.new.vehicles c.in-Ok-dispatch.ensures.ok in
+    let opens = still_opening _ _ _ _ _ _ _ _ _ _ r.dispatches c.in-Ok.ensures.opens in
+    let ways = subst (λ (b : Seen). AllOnTheirWays b.site b.opening) r.book_is (ways-opening _ _ opens) in
     inr (inr record {
       final = r.final;
       replied = g.W.Write.contents c.dispatch.new.writer;
@@ -74,9 +81,10 @@ returns-clause-fault g c =
         book = book;
         opened = opened_with _ _ _ _ c.in-Ok.warehouse.planners _ c.in-Ok.ensures.site c.in-Ok.ensures.opening c.in-Ok.ensures.history c.in-Ok.ensures.planners c.in-Ok.ensures.tied;
         dispatches = r.dispatches;
-        is_opening = still_opening _ _ _ _ _ _ _ _ _ _ r.dispatches c.in-Ok.ensures.opens;
+        is_opening = opens;
         run = subst (λ (b : Seen). Run b.site b.opening b.history b.state) (sym r.book_is) c.history-history.ensures.run;
-        served = subst (λ (b : Seen). IsFormed b.site → AllServed b.history) (sym r.book_is) c.history-history.ensures.served;
+        served = subst (λ (b : Seen). IsFormed b.site → AllServed b.history) (sym r.book_is)
+            (λ formed. c.history-history.ensures.served (record { formed = formed; on_their_ways = ways }));
       };
       why = subst (λ (b : Seen). IsWhyNoTail c.in-Err-written.trouble (g.W.Write.contents c.dispatch.new.writer) (g.W.Write.contents c.write_tail-written.new.output) (tail_after c.args.tail b.opening b.history b.state)) (sym r.book_is)
           c.in-Err-written.ensures.fault;
