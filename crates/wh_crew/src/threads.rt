@@ -2,7 +2,7 @@
 #![tactic(auto)]
 
 ghost use Rattle.std.specs.Prelude.{◌≡◌, ◌<◌, ◌≤◌, [], ℕ, true, false, All, IfOk, length, map, vec_len, vec_capacity, Some, slice_get};
-ghost use Rattle.wh_core.specs.Laws.{IsBeginningOnTheirWays};
+ghost use Rattle.wh_core.specs.Laws.{IsBeginning};
 ghost use Rattle.wh_core.specs.Steps.{Run};
 ghost use Rattle.wh_desk.specs.Pasts.{origin_of, past_of};
 ghost use Rattle.wh_desk.specs.Lists.{AllAt};
@@ -255,7 +255,7 @@ pub fn crew<
     requires passes { InOrder N.callers passes.items }
     requires works { length works.items ≡ length passes.items }
     ensures origin { IfOk result (λ c. origin_of c.history.warehouse.book ≡ N.origin) }
-    ensures opening { IfOk result (λ _. IsBeginningOnTheirWays N.origin.site N.origin.opening) }
+    ensures opening { IfOk result (λ _. IsBeginning N.origin.site N.origin.opening) }
     ensures run { IfOk result (λ c. Run N.origin.site N.origin.opening c.history.warehouse.book.history c.history.warehouse.book.state) }
     ensures callers { IfOk result (λ c. All (λ entry. entry.caller < N.callers) c.history.warehouse.book.history) }
     ensures within { IfOk result (λ c. length c.history.warehouse.book.history ≤ length N.cells) }

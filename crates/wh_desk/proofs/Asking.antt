@@ -5,7 +5,7 @@ use mathlib.Core.List.{IsPrefix}
 use Rattle.wh_points.specs.Points.{Site}
 use Rattle.wh_event.specs.declared.entry.Entry.{Entry}
 use Rattle.wh_core.specs.States.{State}
-use Rattle.wh_core.specs.Laws.{IsBeginningOnTheirWays}
+use Rattle.wh_core.specs.Laws.{IsBeginning}
 use Rattle.wh_core.specs.Steps.{Run}
 use Rattle.wh_core.proofs.Sound.{sound-reached}
 use Rattle.wh_token.specs.Asking.{IsNextToAsk, MayBeAsked}
@@ -37,5 +37,5 @@ pub next_may : (site : Site) (s : State) (asked : List Bool) (agent : ℕ) → I
 next_may site s asked agent next = elim next [ inl takes ↦ takes.1.one | inr way ↦ way.one ]
 
 -- there are as many paths as agents in each state that is reached
-pub seats_run : (site : Site) (opening : State) (history : List Entry) (s : State) → IsBeginningOnTheirWays site opening → Run site opening history s → length s.paths ≡ length site.layout.agents
-seats_run site opening history s begun run = (sound-reached site history s (record { opening = opening; is_beginning = begun.beginning; run = run })).seats.paths
+pub seats_run : (site : Site) (opening : State) (history : List Entry) (s : State) → IsBeginning site opening → Run site opening history s → length s.paths ≡ length site.layout.agents
+seats_run site opening history s begun run = (sound-reached site history s (record { opening = opening; is_beginning = begun; run = run })).seats.paths

@@ -1,7 +1,6 @@
 -- what the calls of a desk tell
 use Rattle.std.specs.Prelude.{◌≡◌, ℕ, ◌<◌, ◌≤◌, Bool, true, List, [], ◌∷◌, ◌++◌, length, take, Option, Some, slice_get, slice_set, All}
 use mathlib.Core.List.{IsPrefix}
-use Rattle.wh_points.specs.Formed.{IsFormed}
 use Rattle.wh_grid.specs.Grids.{Floor}
 use Rattle.once_cell.specs.declared.race.note.Note.{Note}
 use Rattle.logbook.specs.Pages.{Book}
@@ -12,7 +11,7 @@ use Rattle.wh_event.specs.declared.event.Command.TheVariants.{Token}
 use Rattle.wh_event.specs.declared.event.Spare.{Spare}
 use Rattle.wh_core.specs.States.{State}
 use Rattle.wh_core.specs.Steps.{Step, Run}
-use Rattle.wh_book.specs.Drafts.{AllServed}
+use Rattle.wh_book.specs.Drafts.{AllServed, HasWaysForAll}
 use Rattle.wh_token.specs.Asking.{AllWouldRest, IsNextToAsk, MayBeAsked}
 use Rattle.wh_token.specs.Commands.{event_of}
 use Rattle.wh_token.specs.Fleet.{StaySeated}
@@ -157,9 +156,9 @@ pub record Agreed (origin : Origin) (one two : Received) : Type 0 where
   pub one_known : IsPrefix one.known history
   pub two_known : IsPrefix two.known history
 
--- on a well-formed instance none of the entries is a refusal for lack of a path
+-- on a well-formed instance, where all were on their ways as the run began, none of the entries is a refusal for lack of a path
 abbrev pub NoneWantsPath : Origin → List Entry → Type 0
-NoneWantsPath origin history = IsFormed origin.site → AllServed history
+NoneWantsPath origin history = HasWaysForAll origin.site origin.opening → AllServed history
 
 -- a pass for each caller, in order
 pub record InOrder (callers : ℕ) (passes : List Received) : Type 0 where

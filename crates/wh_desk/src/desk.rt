@@ -1,13 +1,13 @@
 //! The desk.
 #![tactic(auto)]
 
+ghost use Rattle.wh_book.specs.Drafts.{HasWaysForAll};
 ghost use Rattle.std.specs.Prelude.{◌≡◌, ◌≢◌, ◌<◌, ◌≤◌, ◌↔◌, [], length, true, IfOk, IfErr, IfNone, IfSome, IsTrue, IsSome, MatchResult, OnErr, All};
 ghost use Rattle.std.specs.List.{sum_by};
-ghost use Rattle.wh_points.specs.Formed.{IsFormed};
 ghost use Rattle.wh_event.specs.declared.event.Command.{Command as Asked};
 ghost use Rattle.wh_event.specs.declared.reply.Reply.{Reply as Answered};
 ghost use Rattle.wh_event.specs.declared.reply.Refusal.{Refusal as Reason};
-ghost use Rattle.wh_core.specs.Laws.{IsBeginningOnTheirWays};
+ghost use Rattle.wh_core.specs.Laws.{IsBeginning};
 ghost use Rattle.wh_core.specs.Steps.{Run};
 ghost use Rattle.wh_token.specs.Fleet.{TellsFor, replaced_agent};
 ghost use Rattle.wh_board.specs.Boards.{IsBoardOf};
@@ -139,7 +139,7 @@ impl<N: DeskName, H: Wait + Drop, P: Plans> Desk<N, H, P> {
         ensures clock { IfOk result.outcome (λ r. IsClockAt N.origin pass.new.known r.position r.clock) }
         ensures shown { IfOk result.outcome (λ r. IsTrue r.shown ↔ IsSome r.told) }
         ensures told { IfOk result.outcome (λ r. IfSome r.told (λ t. TellsReceipt N.book N.origin r.position r.entry t)) }
-        ensures served { IfOk result.outcome (λ r. IsFormed N.origin.site → r.entry.reply ≢ Answered.Refused Reason.NoPath) }
+        ensures served { IfOk result.outcome (λ r. HasWaysForAll N.origin.site N.origin.opening → r.entry.reply ≢ Answered.Refused Reason.NoPath) }
         ensures tells { IfOk result.outcome (λ r. TellsFor P.fits_map P.slot_count N.origin.site.grid spare r.entry.event) }
         ensures err { IfErr result.outcome (λ fault. Refuses (length N.cells) pass.old fault pass.new) }
         ensures back { MatchResult result.outcome (λ r. HandsBack P.fits_map N.origin.site.grid (replaced_agent r.entry) spare result.back) (λ _. result.back ≡ spare) }
@@ -161,7 +161,7 @@ impl<N: DeskName, H: Wait + Drop, P: Plans> Desk<N, H, P> {
         ensures ok { IfOk result (λ r. Called N.origin pass.old (Asked.Submit client stops) pass.new r.position r.entry) }
         ensures clock { IfOk result (λ r. IsClockAt N.origin pass.new.known r.position r.clock) }
         ensures shown { IfOk result (λ r. IsTrue r.shown ↔ IsSome r.told) }
-        ensures served { IfOk result (λ r. IsFormed N.origin.site → r.entry.reply ≢ Answered.Refused Reason.NoPath) }
+        ensures served { IfOk result (λ r. HasWaysForAll N.origin.site N.origin.opening → r.entry.reply ≢ Answered.Refused Reason.NoPath) }
         ensures told { IfOk result (λ r. IfSome r.told (λ t. TellsReceipt N.book N.origin r.position r.entry t)) }
         ensures err { IfErr result (λ fault. Refuses (length N.cells) pass.old fault pass.new) }
     {
@@ -181,7 +181,7 @@ impl<N: DeskName, H: Wait + Drop, P: Plans> Desk<N, H, P> {
         ensures ok { IfOk result (λ r. Called N.origin pass.old (Asked.Token agent) pass.new r.position r.entry) }
         ensures clock { IfOk result (λ r. IsClockAt N.origin pass.new.known r.position r.clock) }
         ensures shown { IfOk result (λ r. IsTrue r.shown ↔ IsSome r.told) }
-        ensures served { IfOk result (λ r. IsFormed N.origin.site → r.entry.reply ≢ Answered.Refused Reason.NoPath) }
+        ensures served { IfOk result (λ r. HasWaysForAll N.origin.site N.origin.opening → r.entry.reply ≢ Answered.Refused Reason.NoPath) }
         ensures told { IfOk result (λ r. IfSome r.told (λ t. TellsReceipt N.book N.origin r.position r.entry t)) }
         ensures err { IfErr result (λ fault. Refuses (length N.cells) pass.old fault pass.new) }
     {
@@ -206,7 +206,7 @@ impl<N: DeskName, H: Wait + Drop, P: Plans> Desk<N, H, P> {
         ensures clock { IfOk result (λ next. IfSome next (λ r. IsClockAt N.origin pass.new.known r.position r.clock)) }
         ensures shown { IfOk result (λ next. IfSome next (λ r. IsTrue r.shown ↔ IsSome r.told)) }
         ensures told { IfOk result (λ next. IfSome next (λ r. IfSome r.told (λ t. TellsReceipt N.book N.origin r.position r.entry t))) }
-        ensures served { IfOk result (λ next. IfSome next (λ r. IsFormed N.origin.site → r.entry.reply ≢ Answered.Refused Reason.NoPath)) }
+        ensures served { IfOk result (λ next. IfSome next (λ r. HasWaysForAll N.origin.site N.origin.opening → r.entry.reply ≢ Answered.Refused Reason.NoPath)) }
         ensures err { IfErr result (λ fault. Refuses (length N.cells) pass.old fault pass.new) }
         ensures same { OnErr result (asked.new ≡ asked.old) }
     {
@@ -223,7 +223,7 @@ impl<N: DeskName, H: Wait + Drop, P: Plans> Desk<N, H, P> {
         ensures ok { IfOk result (λ r. Called N.origin pass.old Asked.Tick pass.new r.position r.entry) }
         ensures clock { IfOk result (λ r. IsClockAt N.origin pass.new.known r.position r.clock) }
         ensures shown { IfOk result (λ r. IsTrue r.shown ↔ IsSome r.told) }
-        ensures served { IfOk result (λ r. IsFormed N.origin.site → r.entry.reply ≢ Answered.Refused Reason.NoPath) }
+        ensures served { IfOk result (λ r. HasWaysForAll N.origin.site N.origin.opening → r.entry.reply ≢ Answered.Refused Reason.NoPath) }
         ensures told { IfOk result (λ r. IfSome r.told (λ t. TellsReceipt N.book N.origin r.position r.entry t)) }
         ensures err { IfErr result (λ fault. Refuses (length N.cells) pass.old fault pass.new) }
     {
@@ -240,7 +240,7 @@ impl<N: DeskName, H: Wait + Drop, P: Plans> Desk<N, H, P> {
         ensures ok { IfOk result (λ r. Called N.origin pass.old Asked.Close pass.new r.position r.entry) }
         ensures clock { IfOk result (λ r. IsClockAt N.origin pass.new.known r.position r.clock) }
         ensures shown { IfOk result (λ r. IsTrue r.shown ↔ IsSome r.told) }
-        ensures served { IfOk result (λ r. IsFormed N.origin.site → r.entry.reply ≢ Answered.Refused Reason.NoPath) }
+        ensures served { IfOk result (λ r. HasWaysForAll N.origin.site N.origin.opening → r.entry.reply ≢ Answered.Refused Reason.NoPath) }
         ensures told { IfOk result (λ r. IfSome r.told (λ t. TellsReceipt N.book N.origin r.position r.entry t)) }
         ensures err { IfErr result (λ fault. Refuses (length N.cells) pass.old fault pass.new) }
     {
@@ -261,7 +261,7 @@ impl<N: DeskName, H: Wait + Drop, P: Plans> Desk<N, H, P> {
         ensures clock { IfOk result.outcome (λ r. IsClockAt N.origin pass.new.known r.position r.clock) }
         ensures shown { IfOk result.outcome (λ r. IsTrue r.shown ↔ IsSome r.told) }
         ensures told { IfOk result.outcome (λ r. IfSome r.told (λ t. TellsReceipt N.book N.origin r.position r.entry t)) }
-        ensures served { IfOk result.outcome (λ r. IsFormed N.origin.site → r.entry.reply ≢ Answered.Refused Reason.NoPath) }
+        ensures served { IfOk result.outcome (λ r. HasWaysForAll N.origin.site N.origin.opening → r.entry.reply ≢ Answered.Refused Reason.NoPath) }
         ensures tells { IfOk result.outcome (λ r. TellsFor P.fits_map P.slot_count N.origin.site.grid spare r.entry.event) }
         ensures err { IfErr result.outcome (λ fault. Refuses (length N.cells) pass.old fault pass.new) }
         ensures back { MatchResult result.outcome (λ r. HandsBack P.fits_map N.origin.site.grid (replaced_agent r.entry) spare result.back) (λ _. result.back ≡ spare) }
@@ -317,7 +317,7 @@ impl<N: DeskName, H: Wait + Drop, P: Plans> Desk<N, H, P> {
     pub fn finish(self, passes: Vec<Pass<N>>) -> Result<History<P>, Stale>
         requires { InOrder N.callers passes.items }
         ensures origin { IfOk result (λ r. origin_of r.warehouse.book ≡ N.origin) }
-        ensures opening { IfOk result (λ _. IsBeginningOnTheirWays N.origin.site N.origin.opening) }
+        ensures opening { IfOk result (λ _. IsBeginning N.origin.site N.origin.opening) }
         ensures run { IfOk result (λ r. Run N.origin.site N.origin.opening r.warehouse.book.history r.warehouse.book.state) }
         ensures callers { IfOk result (λ r. All (λ entry. entry.caller < N.callers) r.warehouse.book.history) }
         ensures lists { IfOk result (λ r. All (λ p. p.list ≡ entries_of r.warehouse.book.history p.caller) passes.items) }

@@ -1,13 +1,13 @@
 //! What is under the desk's lock.
 #![tactic(auto)]
 
+ghost use Rattle.wh_book.specs.Drafts.{HasWaysForAll};
 ghost use Rattle.std.specs.Prelude.{◌≡◌, ◌≢◌, ◌<◌, ◌≤◌, ◌&&◌, ◌↔◌, [], true, false, length, IfSome, IfNone, IsSome, IfOk, IfErr, OnErr, IsErr, IsTrue, Err, MatchResult, All};
 ghost use mathlib.Core.List.{IsPrefix};
-ghost use Rattle.wh_points.specs.Formed.{IsFormed};
 ghost use Rattle.wh_event.specs.declared.event.Command.{Command as Asked};
 ghost use Rattle.wh_event.specs.declared.reply.Reply.{Reply as Answered};
 ghost use Rattle.wh_event.specs.declared.reply.Refusal.{Refusal as Reason};
-ghost use Rattle.wh_core.specs.Laws.{IsBeginningOnTheirWays};
+ghost use Rattle.wh_core.specs.Laws.{IsBeginning};
 ghost use Rattle.wh_core.specs.Steps.{Run};
 ghost use Rattle.wh_token.specs.Asking.{AllWouldRest, IsNextToAsk, MayBeAsked};
 ghost use Rattle.wh_token.specs.Fleet.{IsTied, StaySeated, TellsFor, replaced_agent};
@@ -210,7 +210,7 @@ impl<N: DeskName, H: Wait + Drop, P: Plans> Journal<N, H, P> {
     /// beginning, and on a well-formed instance none of its requests is refused for lack of a path.
     pub fn into_history(self) -> History<P>
         ensures origin { origin_of result.warehouse.book ≡ N.origin }
-        ensures opening { IsBeginningOnTheirWays N.origin.site N.origin.opening }
+        ensures opening { IsBeginning N.origin.site N.origin.opening }
         ensures run { Run N.origin.site N.origin.opening result.warehouse.book.history result.warehouse.book.state }
         ensures served { NoneWantsPath N.origin result.warehouse.book.history }
         ensures history { result.warehouse.book.history ≡ self.history }
@@ -248,7 +248,7 @@ impl<N: DeskName, H: Wait + Drop, P: Plans> Journal<N, H, P> {
     ) -> Answer<P>
         ensures ok { IfOk result.outcome (λ r. Entered N.origin self.old pass.old command self.new pass.new r.position r.entry) }
         ensures clock { IfOk result.outcome (λ r. r.clock ≡ self.old.state.clock) }
-        ensures served { IfOk result.outcome (λ r. IsFormed N.origin.site → r.entry.reply ≢ Answered.Refused Reason.NoPath) }
+        ensures served { IfOk result.outcome (λ r. HasWaysForAll N.origin.site N.origin.opening → r.entry.reply ≢ Answered.Refused Reason.NoPath) }
         ensures tells { IfOk result.outcome (λ r. TellsFor P.fits_map P.slot_count N.origin.site.grid spare r.entry.event) }
         ensures shown { IfOk result.outcome (λ r. IsTrue r.shown ↔ IsSome r.told) }
         ensures told { IfOk result.outcome (λ r. IfSome r.told (λ t. (t.book ≡ N.book) × (t.past ≡ record { origin = N.origin; history = self.new.history }) × (self.new.shown ≡ self.new.history))) }
@@ -284,7 +284,7 @@ impl<N: DeskName, H: Wait + Drop, P: Plans> Journal<N, H, P> {
         ensures clock { IfOk result.outcome (λ r. IsClockAt N.origin pass.new.known r.position r.clock) }
         ensures shown { IfOk result.outcome (λ r. IsTrue r.shown ↔ IsSome r.told) }
         ensures told { IfOk result.outcome (λ r. IfSome r.told (λ t. TellsReceipt N.book N.origin r.position r.entry t)) }
-        ensures served { IfOk result.outcome (λ r. IsFormed N.origin.site → r.entry.reply ≢ Answered.Refused Reason.NoPath) }
+        ensures served { IfOk result.outcome (λ r. HasWaysForAll N.origin.site N.origin.opening → r.entry.reply ≢ Answered.Refused Reason.NoPath) }
         ensures tells { IfOk result.outcome (λ r. TellsFor P.fits_map P.slot_count N.origin.site.grid spare r.entry.event) }
         ensures err { IfErr result.outcome (λ fault. Refuses (length N.cells) pass.old fault pass.new) }
         ensures back { MatchResult result.outcome (λ r. HandsBack P.fits_map N.origin.site.grid (replaced_agent r.entry) spare result.back) (λ _. result.back ≡ spare) }
@@ -321,7 +321,7 @@ impl<N: DeskName, H: Wait + Drop, P: Plans> Journal<N, H, P> {
         ensures clock { IfOk result (λ next. IfSome next (λ r. IsClockAt N.origin pass.new.known r.position r.clock)) }
         ensures shown { IfOk result (λ next. IfSome next (λ r. IsTrue r.shown ↔ IsSome r.told)) }
         ensures told { IfOk result (λ next. IfSome next (λ r. IfSome r.told (λ t. TellsReceipt N.book N.origin r.position r.entry t))) }
-        ensures served { IfOk result (λ next. IfSome next (λ r. IsFormed N.origin.site → r.entry.reply ≢ Answered.Refused Reason.NoPath)) }
+        ensures served { IfOk result (λ next. IfSome next (λ r. HasWaysForAll N.origin.site N.origin.opening → r.entry.reply ≢ Answered.Refused Reason.NoPath)) }
         ensures err { IfErr result (λ fault. Refuses (length N.cells) pass.old fault pass.new) }
         ensures same { OnErr result (asked.new ≡ asked.old) }
     {
@@ -405,7 +405,7 @@ impl<N: DeskName, H: Wait + Drop, P: Plans> Journal<N, H, P> {
         requires begins { IsPrefix pass.old.known self.old.history }
         ensures ok { IfOk result.outcome (λ r. Entered N.origin self.old pass.old command self.new pass.new r.position r.entry) }
         ensures clock { IfOk result.outcome (λ r. r.clock ≡ self.old.state.clock) }
-        ensures served { IfOk result.outcome (λ r. IsFormed N.origin.site → r.entry.reply ≢ Answered.Refused Reason.NoPath) }
+        ensures served { IfOk result.outcome (λ r. HasWaysForAll N.origin.site N.origin.opening → r.entry.reply ≢ Answered.Refused Reason.NoPath) }
         ensures tells { IfOk result.outcome (λ r. TellsFor P.fits_map P.slot_count N.origin.site.grid spare r.entry.event) }
         ensures shown { IfOk result.outcome (λ r. IsTrue r.shown ↔ IsSome r.told) }
         ensures told { IfOk result.outcome (λ r. IfSome r.told (λ t. (t.book ≡ N.book) × (t.past ≡ record { origin = N.origin; history = self.new.history }) × (self.new.shown ≡ self.new.history))) }

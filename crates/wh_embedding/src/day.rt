@@ -4,10 +4,9 @@ ghost use Rattle.std.specs.Prelude.{◌≡◌, ◌≤◌, IfOk};
 ghost use Rattle.std.specs.Arc.{arc_value};
 ghost use Rattle.wh_claims.specs.Bank.{Belongs};
 ghost use Rattle.wh_claims.specs.Claim.{claim_amount};
-ghost use Rattle.wh_points.specs.Formed.{IsFormed};
-ghost use Rattle.wh_core.specs.Laws.{IsBeginningOnTheirWays};
+ghost use Rattle.wh_core.specs.Laws.{IsBeginning};
 ghost use Rattle.wh_core.specs.Steps.{Run};
-ghost use Rattle.wh_book.specs.Drafts.{AllServed};
+ghost use Rattle.wh_book.specs.Drafts.{AllServed, HasWaysForAll};
 
 use std::alloc::{AllocError, AllocFailed, Global};
 use std::io;
@@ -233,9 +232,9 @@ fn warehouse_after<R: Print, P: Planner, F: Fn(Parts) -> Result<P, AllocError>>(
     make: &F,
 ) -> Result<Warehouse<P>, Halt>
     requires callable { F.IsAlwaysCallable make.now }
-    ensures opening { IfOk result (λ w. IsBeginningOnTheirWays w.book.site w.book.opening) }
+    ensures opening { IfOk result (λ w. IsBeginning w.book.site w.book.opening) }
     ensures run { IfOk result (λ w. Run w.book.site w.book.opening w.book.history w.book.state) }
-    ensures served { IfOk result (λ w. IsFormed w.book.site → AllServed w.book.history) }
+    ensures served { IfOk result (λ w. HasWaysForAll w.book.site w.book.opening → AllServed w.book.history) }
 {
     let mut warehouse = opened(alloc, make)?;
     match obey(rt, alloc, &mut warehouse) {

@@ -3,7 +3,7 @@ use Rattle.std.specs.Prelude.{◌≡◌, ◌<◌, ◌≤◌, ℕ, Bool, List, le
 use mathlib.Core.List.{IsPrefix}
 use Rattle.wh_grid.specs.Grids.{Floor}
 use Rattle.wh_event.specs.declared.entry.Entry.{Entry}
-use Rattle.wh_core.specs.Laws.{IsBeginningOnTheirWays}
+use Rattle.wh_core.specs.Laws.{IsBeginning}
 use Rattle.wh_core.specs.States.{State}
 use Rattle.wh_core.specs.Steps.{Run}
 use Rattle.wh_desk.specs.Pasts.{Origin}
@@ -38,7 +38,7 @@ pub record AllServed {C : Type 0} (serves : C → Received → Received → ℕ 
 pub record Leaves {R W X : Type 0} (fits : X → Floor → Bool) (count : X → ℕ) (text : List Entry → ℕ × Entry → List ℕ) (remaining : R → Option (List ℕ)) (contents : W → Option (List ℕ))
     (origin : Origin) (cells callers : ℕ) (clients : List (Client X)) (passes : List Received) (pace : Option Pacing)
     (history : List Entry) (state : State) (connections : List ℕ) (worker : Option WorkerEnd) : Type 0 where
-  pub opening : IsBeginningOnTheirWays origin.site origin.opening
+  pub opening : IsBeginning origin.site origin.opening
   pub run : Run origin.site origin.opening history state
   pub by_callers : All (λ entry. entry.caller < callers) history
   pub granted : NoneWantsPath origin history

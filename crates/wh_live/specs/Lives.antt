@@ -4,7 +4,7 @@ use Rattle.wh_words.specs.Lines.{text_of}
 use Rattle.wh_grid.specs.Grids.{Floor}
 use Rattle.wh_points.specs.Points.{Site}
 use Rattle.wh_event.specs.declared.entry.Entry.{Entry}
-use Rattle.wh_core.specs.Laws.{IsBeginningOnTheirWays}
+use Rattle.wh_core.specs.Laws.{IsBeginning}
 use Rattle.wh_core.specs.States.{State, opened}
 use Rattle.wh_core.specs.Steps.{Run}
 use Rattle.wh_crew.specs.Fleet.{IsTied}
@@ -23,7 +23,7 @@ use Rattle.wh_crew.specs.declared.worker.Missed.{Missed}
 -- a well-formed site no request is refused for lack of a path.
 pub record WorkedFrom {X : Type 0} (fits : X → Floor → Bool) (count : X → ℕ) (origin : Origin) (works : List (Work X)) (callers journal : ℕ)
     (history : List Entry) (state : State) : Type 0 where
-  pub begins : IsBeginningOnTheirWays origin.site origin.opening
+  pub begins : IsBeginning origin.site origin.opening
   pub run : Run origin.site origin.opening history state
   pub served : NoneWantsPath origin history
   pub within : length history ≤ journal

@@ -2,7 +2,7 @@
 use Rattle.std.proofs.Common.{◌≡◌, ◌+◌, ℕ, suc, List, [], ◌∷◌, ◌++◌, length, drop, refl, sym, ap, ◌∙◌, arith, subst, Option, None, Some, append-nil, Bool, true, false, Result, Ok, Err}
 use Rattle.std.specs.Prelude.{codes, is_some}
 use Rattle.wh_grid.specs.Grids.{Floor}
-use Rattle.wh_core.specs.Laws.{IsBeginningOnTheirWays}
+use Rattle.wh_core.specs.Laws.{IsBeginning}
 use Rattle.wh_core.specs.Steps.{Run}
 use Rattle.wh_token.specs.Drafts.{Seen}
 use Rattle.wh_token.specs.Runs.{RunsOne, entries_of}
@@ -71,7 +71,7 @@ no_entry None is = refl
 no_entry (Some entry) is = absurd (let no : true ≡ false = is in cc)
 
 module _ {X : Type 0} (fits : X → Floor → Bool) (count : X → ℕ) (asker : Asker) (command : Command) (old : Seen) (spares : List X) (new : Seen) (rest : List X)
-    (begins : IsBeginningOnTheirWays old.site old.opening) (before : Run old.site old.opening old.history old.state) (added : Bool) (one : RunsOne fits count asker.caller command added old spares new rest) where
+    (begins : IsBeginning old.site old.opening) (before : Run old.site old.opening old.history old.state) (added : Bool) (one : RunsOne fits count asker.caller command added old spares new rest) where
   pub answers_entry : added ≡ true → AnswersLine fits count asker (Ok (Some command)) old spares new rest (Some Entry)
   answers_entry is = record {
     replies = reply_to (told_text asker.form) (length old.history) old.state.clock one.outcome ∷ [];

@@ -4,11 +4,10 @@ use Rattle.std.specs.Prelude.{codes, is_some, true, false}
 use Rattle.std.proofs.lemmas.List.Elements.{All-nil, All-append}
 use Rattle.wh_grid.specs.Grids.{Floor}
 use Rattle.wh_points.specs.Points.{Site}
-use Rattle.wh_points.specs.Formed.{IsFormed}
 use Rattle.wh_core.specs.States.{State}
 use Rattle.wh_core.specs.Steps.{Run}
-use Rattle.wh_core.specs.Laws.{IsBeginningOnTheirWays}
-use Rattle.wh_book.specs.Drafts.{Seen, AllServed}
+use Rattle.wh_core.specs.Laws.{IsBeginning}
+use Rattle.wh_book.specs.Drafts.{Seen, AllServed, HasWaysForAll}
 use Rattle.wh_book.proofs.Kept.{run-served}
 use Rattle.wh_token.specs.Runs.{Ran, RunsOne, entries_of}
 use Rattle.wh_token.proofs.Runs.{ran-run}
@@ -107,8 +106,9 @@ output_join {X} fits count asker xs ys old spares mid left new rest had more p q
       ran = ran;
       history = q.history ∙ ap (λ es. es ++ entries_of q.outcomes) p.history ∙ append_assoc old.history (entries_of p.outcomes) (entries_of q.outcomes) ∙ ap (λ es. old.history ++ es) (sym (entries_append p.outcomes q.outcomes));
       run = ran-run fits count old.site asker.caller (commands_of (xs ++ ys)) (p.outcomes ++ q.outcomes) old.state spares new.state rest ran;
-      served = λ formed. subst AllServed (sym (entries_append p.outcomes q.outcomes))
-          (All-append (λ entry. entry.reply ≢ Reply.Refused Refusal.NoPath) (entries_of p.outcomes) (entries_of q.outcomes) (p.served formed) (q.served (subst (λ (t : Site). IsFormed t) (sym p.site) formed)));
+      served = λ ways. subst AllServed (sym (entries_append p.outcomes q.outcomes))
+          (All-append (λ entry. entry.reply ≢ Reply.Refused Refusal.NoPath) (entries_of p.outcomes) (entries_of q.outcomes) (p.served ways)
+          (q.served (subst (λ o. HasWaysForAll mid.site o) (sym p.opening) (subst (λ (t : Site). HasWaysForAll t old.opening) (sym p.site) ways))));
       site = q.site ∙ p.site;
       opening = q.opening ∙ p.opening;
     }
@@ -162,7 +162,7 @@ tells_outcome text place clock (Some entry) added had has result before after is
 
 pub gives_one : {X : Type 0} (fits : X → Floor → Bool) (count : X → ℕ) (asker : Asker) (place clock : ℕ) (command : Command) (old : Seen) (spares : List X) (new : Seen) (rest : List X) (added : Bool)
     → place ≡ length old.history → clock ≡ old.state.clock
-    → IsBeginningOnTheirWays old.site old.opening → Run old.site old.opening old.history old.state
+    → IsBeginning old.site old.opening → Run old.site old.opening old.history old.state
     → (one : RunsOne fits count asker.caller command added old spares new rest)
     → Gives fits count asker.caller (command ∷ []) (answers (told_text asker.form) (Ok (Some command))) old spares new rest (reply_to (told_text asker.form) place clock one.outcome ∷ [])
 gives_one fits count asker place clock command old spares new rest added here now begins before one =
@@ -175,7 +175,7 @@ gives_one fits count asker place clock command old spares new rest added here no
       ran = ran;
       history = one.history;
       run = run;
-      served = λ formed. run-served old.site old.opening old.history old.state (entries_of (one.outcome ∷ [])) new.state begins before run formed;
+      served = λ ways. run-served old.site old.opening old.history old.state (entries_of (one.outcome ∷ [])) new.state begins before run ways;
       site = one.stays.site;
       opening = one.stays.opening;
     }

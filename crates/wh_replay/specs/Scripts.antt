@@ -6,9 +6,8 @@ use Rattle.wh_lines.specs.Text.{EndsLine}
 use Rattle.wh_lines.specs.Input.{Input, left, Takes}
 use Rattle.wh_lines.specs.declared.output.WriteFault.{WriteFault}
 use Rattle.wh_grid.specs.Grids.{Floor}
-use Rattle.wh_points.specs.Formed.{IsFormed}
 use Rattle.wh_core.specs.Steps.{Run}
-use Rattle.wh_book.specs.Drafts.{Seen, AllServed}
+use Rattle.wh_book.specs.Drafts.{Seen, AllServed, HasWaysForAll}
 use Rattle.wh_token.specs.Runs.{Ran, entries_of}
 use Rattle.wh_event.specs.declared.event.Command.{Command}
 use Rattle.wh_event.specs.declared.entry.Entry.{Entry}
@@ -39,8 +38,8 @@ pub record Gives {X : Type 0} (fits : X → Floor → Bool) (count : X → ℕ) 
   pub ran : Ran fits count old.site caller commands outcomes old.state spares new.state rest
   pub history : new.history ≡ old.history ++ entries_of outcomes
   pub run : Run old.site old.state (entries_of outcomes) new.state
-  -- where the instance is well-formed, no request is refused for lack of a path
-  pub served : IsFormed old.site → AllServed (entries_of outcomes)
+  -- where the instance is well-formed and all were on their ways as the run began, no request is refused for lack of a path
+  pub served : HasWaysForAll old.site old.opening → AllServed (entries_of outcomes)
   pub site : new.site ≡ old.site
   pub opening : new.opening ≡ old.opening
 

@@ -230,7 +230,6 @@ first site rules before text reasons.Form h = absurd (no_form site rules (hear_a
 first site rules before text reasons.Count h = absurd (no_count site rules (hear_all unheard before) h.line h.flaw)
 first site rules before text (reasons.Flaw flaw) h = h
 first site rules before text reasons.Rules h = h
-first site rules before text (reasons.Stray agent) h = h
 
 flaw_of : (site : Site) (rules : Rules) (text : List ℕ) (reach : Reach) (r : Restoring) (line : Line) (reason : Reason) (i : IsRestoring site rules text reach r) → IsLineFlaw r.builder.site r.rules (heard_by r) line reason
     → IsLineFlaw site rules (heard_of i.draft.front) line reason

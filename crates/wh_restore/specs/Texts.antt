@@ -22,4 +22,3 @@ reason_text reasons.Form = codes "refused S1"
 reason_text reasons.Count = codes "refused S2"
 reason_text (reasons.Flaw flaw) = flaw_text flaw
 reason_text reasons.Rules = codes "refused S11"
-reason_text (reasons.Stray agent) = codes "refused S13 " ++ decimal agent

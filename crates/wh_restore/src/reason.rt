@@ -19,8 +19,6 @@ pub enum Reason {
     Flaw(Flaw),
     /// S11: the rules are not those of the run.
     Rules,
-    /// S13: the state is sound, and this agent is not on its way. `restore` takes such a state; who goes on with it may not.
-    Stray(u32),
 }
 
 /// Why no state was restored.

@@ -68,7 +68,6 @@ impl Reason {
             Reason::Count => plain(b"refused S2"),
             Reason::Flaw(flaw) => flaw_text(flaw),
             Reason::Rules => plain(b"refused S11"),
-            Reason::Stray(agent) => with_number(b"refused S13 ", agent),
         }
     }
 }

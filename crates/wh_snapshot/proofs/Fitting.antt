@@ -12,9 +12,9 @@ use Rattle.wh_event.specs.declared.entry.Entry.{Entry}
 use Rattle.wh_event.specs.declared.reply.Reply.{Reply}
 use Rattle.wh_core.specs.States.{State}
 use Rattle.wh_core.specs.Steps.{Run}
-use Rattle.wh_core.specs.Laws.{accepted, accepted_by, IsSound, IsSoundTask, IsBeginningOnTheirWays}
+use Rattle.wh_core.specs.Laws.{accepted, accepted_by, IsSound, IsSoundTask, IsBeginning, IsReached}
 use Rattle.wh_core.proofs.Numbers.{numbers-run}
-use Rattle.wh_core.proofs.Sound.{begun-reached, sound-reached, beginning-reached}
+use Rattle.wh_core.proofs.Sound.{sound-reached, beginning-reached}
 use Rattle.wh_log.specs.Ranges.{IsClock}
 use Rattle.wh_log.proofs.Fronts.{all_append}
 use Rattle.wh_book.specs.Drafts.{Seen}
@@ -53,10 +53,10 @@ as_many site opening history state had run first =
     omega (arith, all, new, last, first)
 
 -- each agent has its slots
-pub as_seats : (site : Site) (opening : State) (history : List Entry) (state : State) → IsBeginningOnTheirWays site opening → Run site opening history state →
+pub as_seats : (site : Site) (opening : State) (history : List Entry) (state : State) → IsBeginning site opening → Run site opening history state →
     length state.slots ≡ length state.paths
 as_seats site opening history state begins run =
-    let seats = (sound-reached site history state (begun-reached site opening history state begins run).reached).seats in
+    let seats = (sound-reached site history state (record { opening = opening; is_beginning = begins; run = run })).seats in
     let slots = seats.slots in
     let paths = seats.paths in
     omega (arith, slots, paths)
@@ -118,12 +118,12 @@ snapshot_told had_callers had_counts book front history callers paths slots task
   counts = told_counts ∙ ap (λ (entries : List Entry). counts_told had_counts entries) same;
 }
 
-pub front_fits : (had_callers : List ℕ) (had_counts : List Count) (book : Seen) (front : Front) → IsBeginningOnTheirWays book.site book.opening → Run book.site book.opening book.history book.state →
+pub front_fits : (had_callers : List ℕ) (had_counts : List Count) (book : Seen) (front : Front) → IsBeginning book.site book.opening → Run book.site book.opening book.history book.state →
     length book.state.paths ≤ 256 → 1 ≤ length book.site.layout.agents → BeforeFits front.before → RulesFit front.rules → CanCount had_counts book.history →
     AreCallers had_callers → HaveCallers book.history → IsSnapshot had_callers had_counts book front → AllByRecursion SeatFits front.seats →
     AllByRecursion (λ (s : Submission). IsTyped s.task) front.tasks → Fits front
 front_fits had_callers had_counts book front begins run few some before rules can callers entries is seats typed =
-    let sound = sound-reached book.site book.history book.state (begun-reached book.site book.opening book.history book.state begins run).reached in
+    let sound = sound-reached book.site book.history book.state (record { opening = book.opening; is_beginning = begins; run = run }) in
     let Holds : Task → Type 0 = IsSoundTask book.site book.state in
     let all : AllByRecursion Holds book.state.tasks = each_all Holds book.state.tasks (λ n task found. sound.tasks n task found) in
     let told : AllByRecursion Holds (told_parts front).tasks = subst (λ (tasks : List Task). AllByRecursion Holds tasks) (sym is.tasks) all in
@@ -155,10 +155,10 @@ parts_same a b clock closed paths slots tasks =
     ap (λ x. made x a.closed a.paths a.slots a.tasks) clock ∙ ap (λ x. made b.clock x a.paths a.slots a.tasks) closed ∙ ap (λ x. made b.clock b.closed x a.slots a.tasks) paths
     ∙ ap (λ x. made b.clock b.closed b.paths x a.tasks) slots ∙ ap (λ x. made b.clock b.closed b.paths b.slots x) tasks
 
-pub front_state : (had_callers : List ℕ) (had_counts : List Count) (book : Seen) (front : Front) → IsBeginningOnTheirWays book.site book.opening → Run book.site book.opening book.history book.state →
+pub front_state : (had_callers : List ℕ) (had_counts : List Count) (book : Seen) (front : Front) → IsBeginning book.site book.opening → Run book.site book.opening book.history book.state →
     IsSnapshot had_callers had_counts book front → state_of (told_parts front) ≡ book.state
 front_state had_callers had_counts book front begins run is =
-    let reached = (begun-reached book.site book.opening book.history book.state begins run).reached in
+    let reached : IsReached book.site book.history book.state = record { opening = book.opening; is_beginning = begins; run = run } in
     let may = beginning-reached book.site book.history book.state reached in
     ap (λ (parts : Parts). state_of parts) (parts_same (told_parts front) (parts_of book.state) is.clock is.closed is.paths is.slots is.tasks)
     ∙ sym (parts_tell_the_state book.site book.state may)

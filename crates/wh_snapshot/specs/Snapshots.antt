@@ -6,7 +6,7 @@ use Rattle.wh_event.specs.declared.reply.Reply.{Reply}
 use Rattle.wh_grid.specs.declared.cell.Cell.{Cell}
 use Rattle.wh_tasks.specs.declared.task.Task.{Task}
 use Rattle.wh_core.specs.Steps.{Run}
-use Rattle.wh_core.specs.Laws.{IsBeginningOnTheirWays}
+use Rattle.wh_core.specs.Laws.{IsBeginning}
 use Rattle.wh_book.specs.Drafts.{Seen}
 use Rattle.wh_stand.specs.Parts.{Parts}
 use Rattle.wh_front.specs.declared.front.Count.{Count}
@@ -80,7 +80,7 @@ pub record IsSnapshot (had_callers : List ℕ) (had_counts : List Count) (book :
 -- The book's history is a run to its state, from a beginning at which all were on their ways; and these are the columns of that state, and
 -- that history.
 pub record Reaches (clock : ℕ) (closed : Bool) (paths : List (List Cell)) (slots : List ℕ) (tasks : List Task) (history : List Entry) (book : Seen) : Type 0 where
-  pub begins : IsBeginningOnTheirWays book.site book.opening
+  pub begins : IsBeginning book.site book.opening
   pub run : Run book.site book.opening book.history book.state
   pub some : 1 ≤ length book.site.layout.agents
   pub few : length paths ≤ 256

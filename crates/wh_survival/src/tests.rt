@@ -326,9 +326,7 @@ fn survives_on(
         Ok(Recovery::Resumed(resumed)) => {
             Ok(goes_on(alloc, map, whole, cut, resumed)? && cut.len() >= head.len())
         }
-        Ok(Recovery::Bad { .. } | Recovery::Flawed { .. } | Recovery::Stray { .. }) | Err(_) => {
-            Ok(false)
-        }
+        Ok(Recovery::Bad { .. } | Recovery::Flawed { .. }) | Err(_) => { Ok(false) }
     }
 }
 

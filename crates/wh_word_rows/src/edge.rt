@@ -35,7 +35,7 @@ const NO_SITES: [(&[u8], &[u8]); 5] = [
 ];
 
 /// Troubles, each with its text and the number of its status.
-const TROUBLES: [(Trouble, &[u8], u8); 16] = [
+const TROUBLES: [(Trouble, &[u8], u8); 15] = [
     (
         Trouble::Points(Fault {
             kind: FaultKind::RuleTwice,
@@ -53,14 +53,6 @@ const TROUBLES: [(Trouble, &[u8], u8); 16] = [
             line: 7,
         },
         b"refused S5 2\nrefused L1 line 7\n",
-        1,
-    ),
-    (
-        Trouble::Front {
-            reason: Reason::Stray(3),
-            line: 9,
-        },
-        b"refused S13 3\nrefused L1 line 9\n",
         1,
     ),
     (Trouble::Forgotten { first: 4 }, b"refused L2 4\n", 1),

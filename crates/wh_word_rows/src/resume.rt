@@ -45,14 +45,12 @@ const RESUMED: [(&[u8], Counts); 5] = [
 enum Told {
     /// A line of the front, and what is told of it.
     Flawed(u64, &'static [u8]),
-    /// The line of an agent, and the agent.
-    Stray(u64, u32),
     /// A line, and how many bytes those before it are.
     Bad(u64, usize),
 }
 
 /// Texts that are not resumed, where paths go on home or not.
-const REFUSED: [(bool, &[u8], Told); 14] = [
+const REFUSED: [(bool, &[u8], Told); 11] = [
     (false, b"wlog 3", Told::Bad(1, 0)),
     (false, b"wlog 4\nafter 0\n", Told::Bad(1, 0)),
     (false, b"wlog 2\nafter 0\n", Told::Bad(2, 7)),
@@ -68,24 +66,6 @@ const REFUSED: [(bool, &[u8], Told); 14] = [
         true,
         b"wlog 3\nafter 0\nstate 6 open whole\nentries 0:2 62:8\nagents 2\nagent slots 4 path 0,1\nagent slots 5 path 4,1\ntasks 0\nbegin\n",
         Told::Flawed(3, b"refused S11"),
-    ),
-    // agent 1 stands at no point
-    (
-        false,
-        b"wlog 3\nafter 0\nstate 6 open whole\nentries\nagents 2\nagent slots 4 path 3,0\nagent slots 5 path 2,1\ntasks 0\nbegin\n",
-        Told::Stray(7, 1),
-    ),
-    // agent 1 fetches task 0, and its path does not lead there
-    (
-        false,
-        b"wlog 3\nafter 0\nstate 6 open whole\nentries\nagents 2\nagent slots 4 path 3,0\nagent slots 5 path 4,1\ntasks 1\ntask 0 x 0 agent 1 stops 3,2 1,2\nbegin\n",
-        Told::Stray(7, 1),
-    ),
-    // both stand at points, and paths go on home: agent 0 is not at its own
-    (
-        true,
-        b"wlog 3\nafter 0\nrules ends homes\nstate 6 open whole\nentries\nagents 2\nagent slots 4 path 3,0\nagent slots 5 path 4,1\ntasks 0\nbegin\n",
-        Told::Stray(7, 0),
     ),
     // the second planner has one slot
     (
@@ -152,10 +132,6 @@ fn is_told(found: &Recovery, told: Told) -> bool {
             Recovery::Flawed { line, reason } => {
                 *line == number && reason.text().as_slice() == why
             }
-            _ => false,
-        },
-        Told::Stray(number, stray) => match found {
-            Recovery::Stray { line, agent } => *line == number && *agent == stray,
             _ => false,
         },
         Told::Bad(number, before) => match found {
@@ -299,7 +275,7 @@ const VERIFIED: [(bool, &[u8], Verified, bool); 9] = [
     (
         true,
         b"wlog 3\nafter 0\nstate 6 open whole\nentries\nagents 2\nagent slots 4 path 3,0\nagent slots 5 path 2,1\ntasks 0\nbegin\n",
-        Verified::Bad { line: 7 },
+        Verified::Run { entries: 0 },
         false,
     ),
     (
