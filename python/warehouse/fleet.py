@@ -231,9 +231,10 @@ class Fleet:
                 self.rested[agent] = self.changes
             case Refused('E6'):
                 # at the second time with nothing changed between, it is as lasting as a rest; but for one that walks, for which
-                # another order may be the nearest soon
+                # another order may be the nearest soon; and for a stray while others walk, which may come to stops that it must keep free
                 self.again[agent] = self.clock + 1
-                self.rested[agent] = self.changes if self.barred[agent] == self.changes and self.still[agent] <= self.clock else None
+                waits = self.still[agent] > self.clock or self.is_stray(agent) and self.under_way() > 0
+                self.rested[agent] = self.changes if self.barred[agent] == self.changes and not waits else None
                 self.barred[agent] = self.changes
             case Took(task):
                 own = self.halted.get(agent)
@@ -267,7 +268,10 @@ class Fleet:
             self.halted[agent] = number, left
 
     def busy(self, agent: int, reply: Took | Parked, end: Cell) -> int:
-        """For how many ticks it may not be asked for: to the end of its path; or, where that goes on home, to the last stop."""
+        """For how many ticks it may not be asked for: to the end of its path; or, where that goes on home, to the last stop; none where it
+        goes home without a task."""
+        if self.homes and isinstance(reply, Parked) and agent not in self.halted:
+            return 0
         stops = [end] if isinstance(reply, Parked) else self.halted[agent][1] if agent in self.halted else self.stops[reply.task]
         if end == stops[-1]:
             return reply.steps
@@ -298,7 +302,8 @@ class Fleet:
 
     def may_ask(self, agent: int) -> bool:
         """Whether the agent is due, and its answer not known."""
-        return (bool(self.open) or self.is_stray(agent)) and max(self.due[agent], self.again[agent]) <= self.clock and self.rested[agent] != self.changes
+        is_asking = bool(self.open) or self.is_stray(agent) or self.ends[agent] in self.awaited()
+        return is_asking and max(self.due[agent], self.again[agent]) <= self.clock and self.rested[agent] != self.changes
 
     def under_way(self) -> int:
         """How many agents have steps left."""
@@ -322,6 +327,10 @@ class Fleet:
         """Whether its path does not lead through all stops left of its task, or ends where it may not stay: so may a state have it."""
         point = self.instance.starts[agent] if self.homes else None
         return agent in self.halted or (self.ends[agent] not in self.berths if point is None else self.ends[agent] != self.instance.points[point].cell)
+
+    def awaited(self) -> set[Cell]:
+        """The cells where agents are still to go that were stopped with their tasks: where paths end at stops, others keep off these."""
+        return set() if self.homes else {cell for _, left in self.halted.values() for cell in left}
 
     @functools.cached_property
     def berths(self) -> set[Cell]:
@@ -374,7 +383,8 @@ class Fleet:
         tasks = free + own.get(agent, [])
         if tasks:
             return min((self.distance(here, self.stops[task][0]), task) for task in tasks)
-        return (FAR, None) if self.is_stray(agent) or any(self.stops[task][-1] == here for task in self.open) else None
+        is_wanted = here in self.awaited() or any(self.stops[task][-1] == here for task in self.open)
+        return (FAR, None) if self.is_stray(agent) or is_wanted else None
 
     def next_to_ask(self) -> int | None:
         """Of the due agents whose request would not be `rested` the one nearest to the first stop of the order that it would be
@@ -465,8 +475,8 @@ def is_better_served_later(fleet: Fleet, order: Order) -> bool:
         return False    # it will be refused
     pickup = fleet.stops_of(order)[0]
     times = [max(due - fleet.clock, 0) + fleet.distance(fleet.place(agent, max(due, fleet.clock)), pickup) for agent, due in enumerate(fleet.due)]
-    idle = [time for time, due in zip(times, fleet.due) if due <= fleet.clock]
-    busy = [time for time, due in zip(times, fleet.due) if due > fleet.clock]
+    idle = [time for agent, time in enumerate(times) if fleet.due[agent] <= fleet.clock and agent not in fleet.halted]
+    busy = [time for agent, time in enumerate(times) if fleet.due[agent] > fleet.clock and agent not in fleet.halted]
     return min(busy, default=FAR) < min(idle, default=FAR)
 
 

@@ -104,8 +104,8 @@ class Queue:
             self.serve(fleet, agent)
 
     def serve(self, fleet: Fleet, agent: int) -> None:
-        """Gives an agent the nearest order that it may take, again where that takes no time."""
-        while fleet.due[agent] <= fleet.clock:
+        """Gives an agent the nearest order that it may take, again where that takes no time; none where it has a task."""
+        while fleet.due[agent] <= fleet.clock and agent not in fleet.halted:
             able = [(fleet.distance(fleet.place(agent), fleet.stops_of(one.order)[0]), one.number, one)
                     for one in self.waiting if one.agent in (None, agent) and fleet.may_take(agent, one.order)]
             if not able or not self.give(fleet, min(able, key=lambda row: row[:2])[2], [agent]):
@@ -114,7 +114,7 @@ class Queue:
     def able(self, fleet: Fleet, one: Waiting) -> list[int]:
         """The agents that are due and may take the order."""
         agents = range(len(fleet.due)) if one.agent is None else [one.agent]
-        return [agent for agent in agents if fleet.due[agent] <= fleet.clock and fleet.may_take(agent, one.order)]
+        return [agent for agent in agents if fleet.due[agent] <= fleet.clock and agent not in fleet.halted and fleet.may_take(agent, one.order)]
 
     def give(self, fleet: Fleet, one: Waiting, agents: list[int]) -> bool:
         """Hands the order in and asks for the nearest of these agents; whether that one took it."""

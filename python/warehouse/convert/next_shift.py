@@ -69,7 +69,7 @@ def places(run: Run) -> list[str]:
     for agent in range(len(run.paths)):
         x, y = run.cell_at(agent, run.clock)
         if (x, y) not in points:
-            raise Fault(f'agent {agent} rests at {x},{y}, where no point is: it cannot start there')
+            raise Fault(f'agent {agent} rests at {x},{y}, where no point is: it cannot start there; ask for it until it has parked')
         other = resting.setdefault(points[x, y], agent)
         if other != agent:
             raise Fault(f'agents {other} and {agent} both rest at {points[x, y]}, {x},{y}: this is the log of no run')

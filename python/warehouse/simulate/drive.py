@@ -43,9 +43,9 @@ ends while commands wait for their replies, it is started again, and resumes: it
 without a reply (`--told`), each for one of these commands; the others are sent again. A program that ends again
 by itself before it has served anything more is not started a third time; one that is killed is, up to five times. A FILE with an earlier run is left as it is: what this
 script knew of that run, it knows no more, so it says so and ends, and FILE and FILE.site are to be removed first. But a FILE that has a state
-and no entry behind it (`warehouse state` writes one) says all: the run begins with that state. Then an agent that was stopped with its task asks
-for it again, at each tick where it has no path, and `done` and what follows it are of orders that were delivered behind the state. --save FILE is
-for a program that knows no --log: it writes there, at the end, the log that follows the replies.
+and no entry behind it (`warehouse state` writes one) says all: the run begins with that state. Then an agent that was stopped, with its task or
+off the points, asks at each tick at which it has no path, as long as others walk, and `done` and what follows it are of orders that were delivered
+behind the state. --save FILE is for a program that knows no --log: it writes there, at the end, the log that follows the replies.
 
 With --replies short `took N end K` and `parked P end K` have K and no cell: for a program that knows no `--replies`.
 

@@ -260,8 +260,8 @@ class Late:
         self.at(self.now + 1.0, 'tick')
 
     def run(self) -> None:
-        if self.core.place:
-            raise Stop(f'`entries {self.core.place}` came where 0 entries were known')
+        if self.core.place or self.core.state:
+            raise Stop(f'`entries {self.core.place}` came where 0 entries were known' if self.core.place else 'the log begins with a state')
         self.plan_on()
         self.at(1.0, 'tick')
         while self.queue:

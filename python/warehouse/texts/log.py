@@ -210,7 +210,8 @@ class Reader:
             own = run.halted.get(agent)
             if own is not None:
                 self.visit(agent, own, cells)
-            run.paths[agent].append(Path(clock, cells, own, point, 0 if run.homes and own is None else None))
+            served = 0 if own is None else None if agent in run.halted else run.tasks[own].visits[-1] - clock
+            run.paths[agent].append(Path(clock, cells, own, point, served if run.homes else None))
             self.note(caller, 'parked', agent, point, len(cells) - 1)
             return
         number = self.taken_by(agent, reply[1])

@@ -257,7 +257,7 @@ function player(root) {
   function goesHome(w) { const x = byNumber.get(w.task), p = x && R.points[x.stops[x.stops.length - 1]]; return p && (p[2] != w.xs[w.last] || p[3] != w.ys[w.last]); }
   function about(a, t) {
     const c = clockAt(t), w = way(a, c), v = V && vehicle(a, t), [x, y] = V ? v.cells[0] : place(a, t), left = Math.max(0, w.clock + w.last - c), load = loadOf(a, t);
-    let did = 0; if (V) did = own[a].filter(x => x.done <= t).length; else for (let i = 0, n = upTo(R.ways[a], t, v => v[0] - R.start); i < n; i++) { const x = byNumber.get(R.ways[a][i][3]); if (x && x.done <= t) did++; }
+    let did = 0; if (V) did = own[a].filter(x => x.done <= t).length; else { const its = new Set(R.ways[a].slice(0, upTo(R.ways[a], t, v => v[0] - R.start)).map(v => byNumber.get(v[3]))); for (const x of its) if (x && x.done <= t) did++; }
     const doing = load ? (phase(load, t) == 1 ? `goes to fetch task ${load.i} at ${name(load.stops[0])}` : `carries task ${load.i} to ${name(load.stops[made(load, t)])}`)
       : left || v && v.behind ? (w.task < 0 ? w.point < 0 ? 'is on a path' : `goes to park at ${name(w.point)}` : goesHome(w) ? `goes home, task ${w.task} is done` : `ends the way of task ${w.task}, which is done`) : 'rests';
     const late = !V ? '' : (v.cells.length > 1 ? `, granted ${v.cells.slice(1).map(k => k.join(',')).join(' ')}` : '')
