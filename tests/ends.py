@@ -234,6 +234,10 @@ class Judge:
         if self.closed or agent >= len(self.paths) or left:
             wanted = ['refused', 'E8'] if self.closed else ['refused', 'E5', str(left)] if left else ['refused', 'E4', str(agent)]
             return demand(reply == wanted, f'{wanted} is due')
+        return self.answer(agent, reply)
+
+    def answer(self, agent, reply):
+        """A due agent's request."""
         number = self.next_for(agent)
         if number is not None:
             return self.take(agent, number, reply)
@@ -243,12 +247,12 @@ class Judge:
 
     def take(self, agent, number, reply):
         task = self.tasks[number]
-        tour = self.tour(agent, task.stops)
+        tour = self.tour(agent, task.left())
         if reply == ['refused', 'E6']:
             return demand(not self.has_way(agent, tour), f'there is a way for task {number}')
         demand(reply[:3:2] == ['took', 'path'] and reply[1] == str(number), f'task {number} is its next')
         path = cells_of(reply[3:])
-        self.lawful(agent, path, len(tour))
+        self.lawful(agent, path, len(self.tour(agent, task.stops)))
         demand(visits_in(tour, path) is not None, 'the path goes not through the stops')
         demand(path[-1] == tour[-1], 'the path ends elsewhere')
         self.paths[agent], self.loads[agent], task.agent = path, task, agent

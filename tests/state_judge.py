@@ -1,7 +1,7 @@
 """Judges states, with which a log of version 3 may begin, by docs/FORMATS.md alone: sound, or the first line that is not, and why.
 
-A line's flaws are tested in the order S1 to S11. Two flaws of an agent's line are tested behind all lines: S13, that it is not on its way; and
-last that its slots are none of 2 to 64, which is S1.
+A line's flaws are tested in the order S1 to S11. One flaw of an agent's line is tested behind all lines: that its slots are none of 2 to 64,
+which is S1.
 """
 import re
 
@@ -48,16 +48,15 @@ class Judge:
     def __init__(self, floor, homes, age):
         self.floor, self.rules = floor, (homes, age)
         self.stations = {cell for kind, cell in floor.points.values() if kind == 'station'}
-        self.points = {cell for _, cell in floor.points.values()}
         self.due, self.agents_left, self.tasks_left = ('wlog',), 0, 0
-        self.clock, self.paths, self.slots, self.tasks, self.lines = 0, [], [], [], []
+        self.clock, self.closed, self.paths, self.slots, self.tasks, self.lines = 0, False, [], [], [], []
 
     def judge(self, text):
         """The number of the first line that is in no sound state, and why; or 0, and the number of the line behind the state."""
         lines = text.split('\n')
         for number, line in enumerate(lines, 1):
             if not self.due:
-                return self.judge_ways() or self.judge_slots() or (0, number)
+                return self.judge_slots() or (0, number)
             try:
                 self.take(line, number == len(lines), number)
             except Flaw as flaw:
@@ -119,10 +118,10 @@ class Judge:
             raise Flaw('S11')
         self.due = ('state',)
 
-    def on_state(self, clock, *_):
+    def on_state(self, clock, is_open, *_):
         if len(self.due) == 2 and self.rules != (False, None):
             raise Flaw('S11')
-        self.clock, self.due = int(clock), ('entries',)
+        self.clock, self.closed, self.due = int(clock), is_open == 'closed', ('entries',)
 
     def on_entries(self, *_):
         self.due = ('agents',)
@@ -185,16 +184,6 @@ class Judge:
     def own(self, agent):
         """The task of the agent of which stops are left."""
         return next((number for number, task in enumerate(self.tasks) if task.agent == agent and task.left()), None)
-
-    def judge_ways(self):
-        """The first agent whose path does not end at a point where it may stay, or not lead through the stops left of its task to the last."""
-        for agent, path in enumerate(self.paths):
-            own, home = self.own(agent), [self.floor.starts[agent]] if self.rules[0] else []
-            stops = self.tasks[own].left() + home if own is not None else []
-            last = (stops or home)[-1:]
-            if path[-1] not in self.points or (last and path[-1] != last[0]) or ends.visits_in(stops, path) is None:
-                return self.lines[agent], f'S13 {agent}'
-        return None
 
     def judge_slots(self):
         return next(((line, 'S1') for line, slots in zip(self.lines, self.slots) if not 2 <= slots <= 64), None)

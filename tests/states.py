@@ -8,9 +8,9 @@ Each round makes an instance from its seed as tests/peer.py does, and a run on i
 behind an entry, and what it is then is written as a state by this file: as it is, or as if all had been stopped where they stood. The
 state is sound; with the rest of the entries behind it, it is a run. Then lines of the state are edited: a word, a line left out, doubled
 or moved, a number out of range, a path through a wall, two that meet late, clocks out of order, a second task of an agent, an agent at its
-next stop. Of each text the judge says whether it is sound, or the first line that is not, and why, in the order of the tests S1 to S11;
-then S13, for a state at which an agent is not on its way. `verify --wlog 3` must say the same, and `replay --log` with the reason. Where the
-program knows no `--wlog` this is skipped, and so are the reasons where it tells none. The package's reader of logs takes every sound state, and
+next stop. Of each text the judge says whether it is sound, or the first line that is not, and why, in the order of the tests S1 to S11.
+`verify --wlog 3` must say the same, and `replay --log` with the reason. Where the program knows no `--wlog` this is skipped, and so are the
+reasons where it tells none. The package's reader of logs takes every sound state, and
 reads from a whole one and the rest of the entries the run that it reads from all entries.
 """
 import argparse
@@ -365,12 +365,12 @@ ROWS = [
     ('3,2 1,2', '3,2 2,1', 11, 'S6 2,1'), ('3,2 1,2', '0,1 2,1', 11, 'S6 0,1'), ('1,0 3,0', '1,1 3,0', 10, 'S6 1,1'), ('y 9', 'y 10', 11, 'S7'), ('visits 8', 'visits 2', 10, 'S7'),
     ('visits 8', 'visits 10', 10, 'S7'), ('visits 2 9', 'visits 9 2', 9, 'S7'), ('agent 1 visits 2 9', 'agent 2 visits 2 9', 9, 'S8 2'), ('y 9 open', 'y 9 agent 2', 11, 'S8 2'),
     ('y 9 open', 'y 9 agent 0', 11, 'S9 1'), ('y 9 open', 'y 9 agent 0 visits 9', 11, 'S9 1'), ('1,1 2,1 3,1 3,0', '3,0', 10, 'S10 1'), ('path 4,1', 'path 3,2', 0, ''),
-    # S13: who is not on its way
-    ('1,1 2,1 3,1 3,0', '1,1 2,1 3,1', 6, 'S13 0'), ('1,1 2,1 3,1 3,0', '1,1 0,1', 6, 'S13 0'), ('path 4,1', 'path 4,1 3,1 2,1', 7, 'S5 0'), ('path 4,1', 'path 4,1 4,1 4,1 3,1 2,1', 7, 'S13 1'),
-    ('y 9 open', 'y 9 agent 1', 7, 'S13 1'),
+    # sound too: paths that end at no point or not at the last stop, a task whose agent stands elsewhere
+    ('1,1 2,1 3,1 3,0', '1,1 2,1 3,1', 0, ''), ('1,1 2,1 3,1 3,0', '1,1 0,1', 0, ''), ('path 4,1', 'path 4,1 3,1 2,1', 7, 'S5 0'), ('path 4,1', 'path 4,1 4,1 4,1 3,1 2,1', 0, ''),
+    ('y 9 open', 'y 9 agent 1', 0, ''),
     # slots, behind all of these
     ('slots 64', 'slots 65', 7, 'S1'), ('slots 4', 'slots 1', 6, 'S1'), ('slots 64 path 4,1', 'slots 1 path 2,1 1,1', 7, 'S5 0'), ('slots 64 path 4,1', 'slots 1 path 2,1', 7, 'S5 0'),
-    ('slots 64 path 4,1', 'slots 1 path 4,1 4,1 4,1 3,1 2,1', 7, 'S13 1'),
+    ('slots 64 path 4,1', 'slots 1 path 4,1 4,1 4,1 3,1 2,1', 7, 'S1'),
 ]
 AT_NEXT = ROW.replace('path 4,1', 'path 3,2').replace('y 9 open', 'y 9 agent 1')
 HOMEWARD = ROW.replace('state 9', 'rules ends homes\nstate 9').replace('3,1 3,0', '3,1 3,0 3,1 2,1 1,1 0,1')
@@ -403,9 +403,9 @@ def test_rules_worked_out_by_hand():
             (ROW, (3, 'S11'), True), (ROW.replace('state 9', 'rules ends homes\nstate 9'), (3, 'S11'), False), (ROW.replace('state 9', 'rules age 600\nstate 9'), (3, 'S11'), False),
             (ROW.replace('state 9', 'rules ends homes age 600\nstate 9'), (3, 'S11'), True), (ROW.replace('state 9', 'rules ends stops\nstate 9'), (3, 'S1'), False),
             (ROW.replace('state 9', 'rules\nstate 9'), (3, 'S1'), False), (ROW.replace('state 9', 'rules age 0\nstate 9'), (3, 'S1'), False), (HOMEWARD, (0, ''), True),
-            (HOMEWARD, (3, 'S11'), False), (HOMEWARD.replace('state', 'rules ends homes\nstate'), (4, 'S1'), True), (HOMEWARD.replace(' 2,1 1,1 0,1', ' 2,1 1,1'), (7, 'S13 0'), True),
-            # it rests at another's home; and delivers behind the point where it was to be at home
-            (HOMEWARD.replace('path 4,1', 'path 5,1'), (8, 'S13 1'), True), (HOMEWARD.replace('3,1 3,0 3,1 2,1 1,1 0,1', '3,1 2,1 1,1 0,1'), (7, 'S13 0'), True)):
+            (HOMEWARD, (3, 'S11'), False), (HOMEWARD.replace('state', 'rules ends homes\nstate'), (4, 'S1'), True), (HOMEWARD.replace(' 2,1 1,1 0,1', ' 2,1 1,1'), (0, ''), True),
+            # it rests at another's home; and leaves out the last stop
+            (HOMEWARD.replace('path 4,1', 'path 5,1'), (0, ''), True), (HOMEWARD.replace('3,1 3,0 3,1 2,1 1,1 0,1', '3,1 2,1 1,1 0,1'), (0, ''), True)):
         says(SITE, text, wanted, homes)
     for age, text, wanted in ((600, ROW.replace('state 9', 'rules age 600\nstate 9'), (0, 13)), (600, ROW, (3, 'S11')), (601, ROW.replace('state 9', 'rules age 600\nstate 9'), (3, 'S11'))):
         same('of ages', text, judged(SITE, text, age=age), wanted if wanted[0] else (0, 14))
@@ -429,7 +429,7 @@ def states_of(seed):
 
 
 def test_states_of_runs_are_sound():
-    """And so are those where all stand; a whole one is one at which all are on their ways, and its entries are a run from it."""
+    """And so are those where all stand; the entries behind a whole one are a run from it."""
     kinds = collections.Counter()
     for seed in range(OPTIONS.seed, OPTIONS.seed + OPTIONS.rounds):
         site, homes, floor, found = states_of(seed)
@@ -437,9 +437,8 @@ def test_states_of_runs_are_sound():
             text = ''.join(line + '\n' for line in lines)
             number, why = judged(site, text, homes)
             is_whole = ' whole' in text
-            good = number == 0 or (not is_whole and why.startswith('S13 '))
-            same(seed, text, good, True)
-            kinds[why.split(' ')[0] if number else 'sound'] += 1
+            same(seed, text, number, 0)
+            kinds['whole' if is_whole else 'stopped'] += 1
             if HAS.get('wlog') and is_whole:
                 behind = ''.join(entry + '\n' for entry in entries) + f'end {len(entries)}\n'
                 words = [PROGRAM, 'verify', '--wlog', '3'] + ['--ends', 'homes'] * homes
@@ -485,13 +484,13 @@ def test_edited_states():
                 text = edited(chance, lines, floor)
                 number, why = judged(site, text, homes)
                 kinds[why.split(' ')[0] if number else 'sound'] += 1
-                is_sound = (not number or why.startswith('S13 ')) and text.endswith('\nbegin\n') and text.split('\n').count('begin') == 1
+                is_sound = not number and text.endswith('\nbegin\n') and text.split('\n').count('begin') == 1
                 same(seed, text, is_read(package, text) or not is_sound, True)
                 if HAS.get('wlog'):
                     compare(site, text, homes, (number, why), seed)
     print('edited states:', ', '.join(f'{kind} {count}' for kind, count in sorted(kinds.items())))
     if OPTIONS.rounds >= 3:
-        missing = {'sound', 'S13', *(f'S{number}' for number in range(1, 12))} - set(kinds)
+        missing = {'sound', *(f'S{number}' for number in range(1, 12))} - set(kinds)
         assert not missing, missing
 
 

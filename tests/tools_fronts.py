@@ -149,6 +149,13 @@ def test_paths_go_home() -> None:
     same((run.homes, run.age, run.paths[0][0].free, run.paths[0][0].end, run.paths[1][0].free), (True, 600, 12, 16, 9))
     run = run_of(text + '0 token 1 = took 3 path 1,2 1,2 1,2 1,2 1,1 2,1 3,1 3,2 3,1 2,1 1,1 1,2 1,1 2,1 3,1 4,1\n')
     same(run.tasks[3].agent, 1)
+    # one without a task that parks is due at once, and may take a task on the way
+    run = run_of(text + '0 token 1 = parked P1 path 1,2 1,1 2,1 3,1 4,1\n0 token 1 = rested\n0 tick = clock 10 picked 0 dropped 0\n'
+                 '0 token 1 = took 3 path 1,1 2,1 3,1 3,2 3,1 2,1 1,1 1,2 1,1 2,1 3,1 4,1\n')
+    same([(path.clock, path.task, path.point, path.free) for path in run.paths[1]], [(9, None, None, 9), (9, None, 1, 9), (10, 3, None, 17)])
+    # one with a task that parks through all stops that are left is due at the last of them
+    run = run_of(text.replace('visits 7 8', 'visits 7').replace(' 1,2' * 9 + ' 1,1\n', ' 1,2\n') + '0 token 1 = parked P1 path 1,2 1,1 2,1 3,1 3,2 3,1 4,1\n')
+    same(([(path.task, path.point, path.free) for path in run.paths[1]], run.halted), ([(2, None, 9), (2, 1, 13)], {}))
     is_refused('state 9', 'rules ends homes\nstate 9', 15, 'ends at the last stop')
 
 
@@ -243,7 +250,7 @@ def test_exports() -> None:
 
 
 def test_sentences() -> None:
-    for code in [*(f'S{number}' for number in range(1, 12)), 'S13']:
+    for code in [f'S{number}' for number in range(1, 12)]:
         out, said, status = tool('explain.py', f'refused {code} 2')
         same((out.startswith(f'{code}: '), said, status), (True, '', 0))
     log = file('log', FRONT)
@@ -301,6 +308,16 @@ def test_a_fleet_goes_on_from_a_state() -> None:
     idle = aisle.replace('visits 7 stops', 'visits 7 8 stops')
     same(driven(idle, 'token 1 = parked P0 path 1,1 0,1', *ticks(10, 10)), ('', [], 10))
     same(driven(idle, 'token 1 = refused E6', *ticks(10, 10), 'token 1 = refused E6'), ('at clock 10 all agents stand, 0 orders are open, and no reply can differ any more', [], 10))
+    # while another walks it asks at each tick; once all stand a second time is the last
+    busy = FRONT.replace('y 9 open', 'y 9 agent 1 visits 9 9')
+    same(driven(busy, *(entry for clock in (9, 10, 11) for entry in ('token 1 = refused E6', *ticks(clock + 1, clock + 1, 12))), 'token 1 = refused E6'),
+         ('at clock 12 all agents stand, 1 orders are open, and no reply can differ any more', [], 12))
+    # one that rests where it is to deliver is asked too, and makes way
+    before = busy.replace('1,1 2,1 3,1 3,0', '3,0').replace('visits 8', 'visits 8 9').replace('visits 7 stops 1,2 3,2', 'visits 7 stops 1,2 3,0')
+    same(driven(before, 'token 1 = refused E6', 'token 0 = parked D path 3,0 3,1 3,2', *ticks(10, 10), 'token 1 = took 2 path 1,2 1,1 2,1 3,1 3,0', *ticks(11, 14, 14)), ('', [], 14))
+    # where paths go home its home alone is a berth
+    home = idle.replace('state', 'rules ends homes\nstate').replace('path 3,0', 'path 0,1')
+    same(driven(home, 'token 1 = parked P1 path 1,1 2,1 3,1 4,1', *ticks(10, 12)), ('', [], 12))
     same([state_in(text) for text in (FRONT[:-3], 'wlog 2\nstart 0 slots 4 4\n', 'wlog 3\nstart 0 slots 4 4\n', '')], [None] * 4)
     same((state_in(FRONT + ENTRIES).tasks, state_in(FRONT).earlier), (state_in(FRONT).tasks, 15))
 
