@@ -145,6 +145,23 @@ impl Book {
         &self.setting
     }
 
+    /// The grid and the points alone; all else is given up.
+    pub fn into_setting(self) -> Setting
+        ensures { result ≡ self.site }
+    {
+        let Book {
+            setting,
+            first,
+            floor,
+            history,
+            ..
+        } = self;
+        drop(first);
+        drop(floor);
+        drop(history);
+        setting
+    }
+
     /// All entries so far: a run from the opening state to the state.
     pub fn history(&self) -> &[Entry]
         ensures value { result.now ≡ self.now.history }
