@@ -10,8 +10,10 @@ not here; status 1 where one failed.
 from __future__ import annotations
 
 import contextlib
+import hashlib
 import html
 import http.client
+import itertools
 import json
 import os
 import re
@@ -39,6 +41,7 @@ from warehouse.web.tail import Tail    # noqa: E402
 DELIVERIES = os.path.join(ROOT, 'examples', 'deliveries')
 SHELVES = os.path.join(ROOT, 'examples', 'shelves')
 LINES = text_of('examples', 'deliveries.log').splitlines(keepends=True)
+NAMES = itertools.count()
 MARKUP = '<img/src=x/onerror=document.title="broken">'
 NEEDS_PROGRAM = ['test_grants_are_those_of_the_program', 'test_a_page_begins_in_the_middle']
 
@@ -47,6 +50,9 @@ def new(text: str = '') -> str:
     """A log of its own, with nothing beside it."""
     new.count = getattr(new, 'count', 0) + 1
     return file(f'log-{new.count}', text)
+
+
+new.name = lambda: os.path.join(SCRATCH.name, f'log-{next(NAMES)}-later')
 
 
 def append(name: str, text: str) -> None:
@@ -378,6 +384,78 @@ def test_the_page_goes_on_with_the_next_run() -> None:
         same(run['title'], 'deliveries, run 3')
 
 
+def front_of(text: str, clock: int = 2) -> str:
+    """The state to which the first lines of examples/deliveries.log lead, at clock 2."""
+    return f"""wlog 3
+after 1 {len(text)} {hashlib.sha256(text.encode()).hexdigest()}
+state {clock} open whole
+entries 0:6
+agents 2
+agent slots 4 path 1,0 1,1 2,1 3,1 3,0
+agent slots 4 path 3,2 3,1 3,1 3,2 3,1 2,1 1,1 1,2
+tasks 2
+task 0 x 0 agent 0 visits 2 stops 1,0 3,0
+task 0 y 0 agent 1 visits 2 stops 3,2 1,2
+begin
+"""
+
+
+def test_the_page_continues_with_the_next_log() -> None:
+    """From the state that the log before had: agents, loads, orders, clock and counts are those of the state, and what is new comes behind it."""
+    text = ''.join(LINES[:8])
+    log, later, last = new(text), new.name(), new.name()
+    with served(log, later=[later, last]) as server:
+        listener = Page(server)
+        same(listener.event()[1]['front'], None)
+        append(later, front_of(text)[:-20])    # no page sees half of it
+        append(log, '')
+        append(later, front_of(text)[-20:])
+        kind, run, _ = listener.event()
+        while kind != 'run':
+            kind, run, _ = listener.event()
+        same((run['title'], run['front'], run['start'], run['clock'], run['left_out']),
+             (f'deliveries, {os.path.basename(later)}', {'log': 2, 'clock': 2, 'kind': 'whole', 'entries': 6, 'done': []}, 2, 2, 0))
+        same(run['ways'], [[[2, 1, 0, 0, -1, 'DRRU']], [[2, 3, 2, 1, -1, 'U.DULLD']]])
+        same(([task[:6] for task in run['tasks']], run['events']),
+             ([['x', [2, 3], 0, 0, 2, [2, 6]], ['y', [5, 4], 0, 1, 2, [2, 9]]], [[2, 0, 'began', 6], [2, 0, 'kept', 0, 1], [2, 0, 'kept', 1, 1]]))
+        same(get(server, '/health'), (200, '{"alarms": []}\n'))
+        has(get(server, '/metrics')[1], 'warehouse_entries_total 6\n', 'warehouse_log 2\n', 'warehouse_tasks{phase="carried"} 2\n')
+        append(later, LINES[8])
+        news = listener.news()[0]
+        same((news['clock'], news['entries'], news['events']), (3, 1, []))
+        append(last, front_of(text, 3).replace('after 1', 'after 2'))    # of another log
+        until(lambda: get(server, '/health') == (503, json.dumps({'alarms': [f'{last} does not continue {later}']}) + '\n'))
+        listener.close()
+    with served(log, later=[later, last]) as server:    # one that begins now has the last of them
+        kind, run, _ = Page(server).event()
+        while kind != 'run' or run['front'] is None:
+            kind, run, _ = Page(server).event()
+        same((run['front']['log'], run['front']['clock']), (3, 3))
+
+
+def test_all_that_is_done_is_counted() -> None:
+    """A page has the last minutes, and counts what was done before them; an agent's tasks are visited in their turn, whatever their numbers."""
+    rest = ''.join(f'0 tick = clock {clock} picked 0 dropped 0\n' for clock in range(10, 1000))
+    log = new(''.join(LINES[:-2]).replace('0 close = closed\n', '') + rest)
+    floor = Follower(read_instance(DELIVERIES, read_file(DELIVERIES)), 'deliveries', log)
+    floor.look()
+    run = floor.begun()
+    same((floor.done, run['tasks'], run['left_out']), (2, [], 2))
+    # agent 0 takes task 1 first, and task 0 behind it
+    log = new('''wlog 2
+start 0 slots 4 4
+0 submit x B A = accepted 0
+0 submit x A B = accepted 1
+0 token 0 = took 1 path 0,1 1,1 1,0 1,1 2,1 3,1 3,0
+''' + ''.join(f'0 tick = clock {clock} picked {int(clock == 2)} dropped {int(clock == 6)}\n' for clock in range(1, 7)) + '''0 token 0 = took 0 path 3,0 3,1 2,1 1,1 1,0
+0 tick = clock 7 picked 0 dropped 0
+''')
+    file(os.path.basename(log) + '.at', 'at 0 0\nat 0 6\n')
+    floor = Follower(read_instance(DELIVERIES, read_file(DELIVERIES)), 'deliveries', log)
+    floor.look()
+    same((floor.done, floor.is_done(1), floor.is_done(0), len(floor.vehicles.visits[0])), (1, True, False, 1))
+
+
 def test_a_page_that_goes_away() -> None:
     log = new(''.join(LINES[:6]))
     with served(log) as server:
@@ -416,6 +494,7 @@ def test_what_is_old_is_dropped() -> None:
 
 def test_it_listens_at_home() -> None:
     same(run_here('--help').count('127.0.0.1') > 1, True)
+    has(run_here('--help'), 'INSTANCE LOG [LOG ...]')
     for words, told in ((['/none', 'log'], '/none'), ([DELIVERIES, 'log', '--port', '70000'], '--port'), ([DELIVERIES, 'log', '--ahead', '0'], '--ahead')):
         has(run_here(*words), told)
 

@@ -21,7 +21,8 @@ function player(root) {
   const clockAt = m => V ? (V.base || 0) + upTo(V.ticks, m * 100, v => v) : Math.floor(m);
   function taskOf([client, stops, sub, agent, taken, planned, number], k) {
     const visits = V ? V.visits[k].map(v => v / 100) : planned.map(moment);
-    return {i: number ?? k, client, stops, agent, visits, sub: moment(sub), taken: taken < 0 ? NEVER : moment(taken),
+    // with vehicles no second is known of what was submitted before the page's first one
+    return {i: number ?? k, client, stops, agent, visits, sub: moment(sub), timed: !V || !V.base || sub > V.base, taken: taken < 0 ? NEVER : moment(taken),
       first: visits.length ? visits[0] : NEVER, done: visits.length == stops.length ? visits[visits.length - 1] : NEVER};
   }
   function way(a, t) {
@@ -49,7 +50,7 @@ function player(root) {
   let seenAt = -1, seen = [];
   function vehicle(a, m) { if (m != seenAt) { seenAt = m; seen = []; } return seen[a] ??= vehicleAt(a, m); }
   function vehicleAt(a, m) {
-    const at = V.at[a], go = V.go[a], t = m * 100, clock = clockAt(m), i = upTo(at, t, e => e[0]), came = i ? at[i - 1][1] : 0;
+    const at = V.at[a], go = V.go[a], t = m * 100, clock = clockAt(m), i = upTo(at, t, e => e[0]), came = i ? at[i - 1][1] : V.base || 0;
     const step = passed(a, came, clock), first = upTo(go, came, e => e[1]), told = upTo(go, t, e => e[0]), cells = [cell(a, came)];
     for (let g = first; g < told; g++) cells.push(cell(a, go[g][1]));
     let [x, y] = cells[0];
@@ -223,26 +224,28 @@ function player(root) {
   // Of events the clocks are moments; with vehicles the visits are theirs.
   const eventOf = e => [moment(e[0]), ...e.slice(1)], visitsOf = x => x.visits.map((m, k) => [m, 0, 'visit', x.i, k]);
   function words(e) {
-    const [when, caller, kind, a, b, c] = e, x = kind == 'submit' || kind == 'visit' ? byNumber.get(a) : null;
+    const [when, caller, kind, a, b, c] = e, x = kind == 'submit' || kind == 'visit' || kind == 'kept' ? byNumber.get(a) : null;
     if (kind == 'submit') return x ? `${x.client} submits task ${a}: ${x.stops.map(name).join(' → ')}` : `task ${a} is submitted`;
     if (kind == 'took') return `agent ${a} takes task ${b}, ${c} steps`;
     if (kind == 'parked') return `agent ${a} goes to park at ${name(b)}, ${c} steps`;
+    if (kind == 'began') return `the run continues from a state, behind ${a} entries`;
+    if (kind == 'kept') return x ? `agent ${x.agent} has task ${a} from before, ${b} of ${x.stops.length} stops made` : `task ${a} was taken before`;
     if (kind == 'replaced') return `agent ${a} has another planner, ${b} slots`;
     if (kind == 'closed') return 'the warehouse is closed';
     if (kind == 'refused') return `${a}: refused ${b}`;
     if (!x) return `a visit of task ${a}`;
     const who = `${V ? 'vehicle' : 'agent'} ${x.agent}`, where = name(x.stops[b]);
-    if (b == x.stops.length - 1) return `${who} delivers task ${a} at ${where}, ${Math.round(when - x.sub)} after submission`;
+    if (b == x.stops.length - 1) return `${who} delivers task ${a} at ${where}${x.timed ? `, ${Math.round(when - x.sub)} after submission` : ''}`;
     return b == 0 ? `${who} picks up task ${a} at ${where}` : `${who} is at stop ${b + 1} of task ${a}, ${where}`;
   }
   let listed = '';
   function panel() {
     const t = Math.floor(now), n = upTo(E, V ? now : t, e => e[0]);
     if (V) panelLate();
-    PHASES.forEach((p, i) => { $('n' + i).textContent = counts[i][t]; });
+    PHASES.forEach((p, i) => { $('n' + i).textContent = counts[i][t] + (p == 'done' && R.left_out || 0); });
     const key = t + ' ' + picked; if (key == listed) return; listed = key;
     const lines = [], mine = e => picked < 0 || (e[2] == 'took' || e[2] == 'parked' || e[2] == 'replaced' ? e[3] == picked
-      : e[2] == 'visit' ? byNumber.get(e[3])?.agent == picked : e[2] == 'refused' && String(e[3]).startsWith(`agent ${picked} `));
+      : e[2] == 'visit' || e[2] == 'kept' ? byNumber.get(e[3])?.agent == picked : e[2] == 'refused' && String(e[3]).startsWith(`agent ${picked} `));
     for (let i = n - 1; i >= 0 && lines.length < 120; i--) if (mine(E[i]))
       lines.push(`<p${E[i][2] == 'refused' ? ' class=bad' : ''}><i>${Math.floor(E[i][0]) + BASE}</i> ${escaped(words(E[i]))}</p>`);
     $('events').innerHTML = `<h2>Events up to now${picked < 0 ? '' : `, agent ${picked}`}, latest first (not listed: rested, E5)</h2>` + lines.join('');
@@ -262,7 +265,7 @@ function player(root) {
       : left || v && v.behind ? (w.task < 0 ? w.point < 0 ? 'is on a path' : `goes to park at ${name(w.point)}` : goesHome(w) ? `goes home, task ${w.task} is done` : `ends the way of task ${w.task}, which is done`) : 'rests';
     const late = !V ? '' : (v.cells.length > 1 ? `, granted ${v.cells.slice(1).map(k => k.join(',')).join(' ')}` : '')
       + (v.behind ? `\n${v.behind} steps behind its plan, which is at ${cell(a, v.clock).join(',')}` : '');
-    return `${a} at ${x},${y}: ${doing}${late}\n${left} steps left${V ? ' in its plan' : ''}, tasks done: ${did}`;
+    return `${a} at ${x},${y}: ${doing}${late}\n${left} steps left${V ? ' in its plan' : ''}, tasks done${R.left_out ? ' lately' : ''}: ${did}`;
   }
   // What is under way, stacked, up to the most that ever is; what is done is a line, up to all tasks. Drawn once, and then the moment.
   function paintChart(w, h, all) {
@@ -355,15 +358,17 @@ function player(root) {
     if (R.cut && !R.live) fact('CUT: the log has not its end', 'tag bad');
     fact(`${R.width} × ${R.height}`); fact(`${N} agents`); if (!R.live) figures(fact);
     if (R.nofollow) fact('rule nofollow');
+    if (R.front) fact(`log ${R.front.log} of its run: from clock ${R.front.clock}, behind ${R.front.entries} entries` + (R.front.kind == 'whole' ? '' : `, ${R.front.kind}`));
     fact(`${R.entries} entries: ${['rested', 'E5', 'E6'].map(k => `${k} ${R.answers[k] || 0}`).join(', ')}`);
     $('facts').replaceChildren(...spans);
     $('banner').textContent = (R.differ.length ? 'Counts differ: what is drawn is not what the log says\n' + R.differ.join('\n') : '')
       + (V && V.meetings.length ? 'Vehicles meet\n' + V.meetings.join('\n') : '');
   }
   function figures(fact) {
-    const served = X.filter(x => x.done < NEVER), end = served.reduce((m, x) => Math.max(m, x.done), 0), mean = served.reduce((s, x) => s + x.done - x.sub, 0) / served.length;
-    fact(`${served.length} of ${X.length} tasks done`);
-    if (served.length) { fact(V ? `the last at second ${Math.round(end)}` : `makespan ${end}`); fact(`service time ${mean.toFixed(1)}`); if (end) fact(`${(100 * served.length / end).toFixed(1)} tasks in 100 ${V ? 'seconds' : 'ticks'}`); }
+    const before = new Set(R.front?.done), all = X.filter(x => !before.has(x.i)), served = all.filter(x => x.done < NEVER), timed = served.filter(x => x.timed);
+    const end = served.reduce((m, x) => Math.max(m, x.done), 0), mean = timed.reduce((s, x) => s + x.done - x.sub, 0) / timed.length;
+    fact(`${served.length} of ${all.length} tasks done` + (before.size ? `, ${before.size} before` : ''));
+    if (served.length) { fact(V ? `the last at second ${Math.round(end)}` : `makespan ${end}`); if (timed.length) fact(`service time ${mean.toFixed(1)}`); if (end) fact(`${(100 * served.length / end).toFixed(1)} tasks in 100 ${V ? 'seconds' : 'ticks'}`); }
     if (V) { fact(`the clock waited ${V.held.length == 1 ? 'once' : V.held.length + ' times'}`); fact(`at most ${V.most} steps behind`); }
   }
   const MARKS = [['vehicle', 'vehicle', 'drawn as if it moved evenly between its reports'], ['cell', 'cells that it occupies', 'from where it has arrived to the last that was granted'],
