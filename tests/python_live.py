@@ -567,18 +567,82 @@ def dom(text: str, name: str, seconds: float = 60) -> str:
     return done.stdout
 
 
+def live_dom(events: list[tuple[str, dict]], script: str, name: str) -> str:
+    """The live page with these events of the server, from a source that is none of the network's, and behind them this script."""
+    source = '''class EventSource {
+      addEventListener(kind, f) { (this.heard ??= {})[kind] = f; if (kind == 'more') for (const [k, d] of EVENTS) this.heard[k]({data: JSON.stringify(d)}); }
+      close() {}
+    }'''
+    data = json.dumps(events).replace('<', '\\u003c')
+    return dom(page(f'<script>const EVENTS = {data}; {source}</script><script>{asset("player.js")}</script><script>{asset("live.js")}</script><script>{script}</script>',
+                    SIDE), name)
+
+
+def said(text: str) -> dict:
+    """What a script of a test left in the page."""
+    return json.loads(html.unescape(re.search(r'data-said="([^"]*)"', text)[1]))
+
+
+SHOWN = """const shown = name => document.querySelector('.' + name).textContent;
+const all = () => ({phases: [0, 1, 2, 3].map(i => +shown('n' + i)), agent: shown('agent'), facts: shown('facts'), clock: shown('clock'),
+  events: [...document.querySelectorAll('.events p')].map(p => p.textContent)});
+"""
+
+
+def test_a_browser_shows_a_state() -> None:
+    """A live page that begins with one: where agents stand, loads, orders, clock and counts, and then what is new."""
+    chromium()
+    text = ''.join(LINES[:8])
+    log = new(front_of(text).replace('tasks 2\n', 'tasks 3\ntask 0 z 0 agent 0 visits 0 1 stops 1,0 3,0\n'))
+    floor = Follower(read_instance(DELIVERIES, read_file(DELIVERIES)), 'deliveries', log)
+    floor.look()
+    status = {'alarms': [], 'figures': [], 'ended': False}
+    events = [('run', floor.begun() | {'status': status})]
+    script = SHOWN + 'p.pick(1); document.body.dataset.said = JSON.stringify(all());'
+    found = said(live_dom(events, script, 'c.html'))
+    same((found['phases'], found['clock'], found['agent']), ([0, 0, 2, 1], 'clock 2 of 2', '1 at 3,2: carries task 2 to C\n7 steps left, tasks done lately: 0'))
+    has(found['facts'], 'log 2 of its run: from clock 2, behind 6 entries')
+    same(found['events'], ['2 agent 1 has task 2 from before, 1 of 2 stops made'])
+    for line in LINES[8:13]:
+        append(log, line)
+        if news := floor.look():
+            events.append(('more', news | {'live': status}))
+    found = said(live_dom(events, script, 'd.html'))
+    same((found['phases'], found['clock'], found['agent']), ([0, 0, 1, 2], 'clock 6 of 6', '1 at 3,1: carries task 2 to C\n3 steps left, tasks done lately: 0'))
+    # with vehicles: 0 has come to clock 4 of its plan, and 1 has not left where the state has it
+    file(os.path.basename(log) + '.at', f'front 100 {"a" * 64}\nat 0 2\n')
+    floor = Follower(floor.instance, 'deliveries', log, 2)
+    floor.look()
+    found = said(live_dom([('run', floor.begun() | {'status': status})], script, 'e.html'))
+    same((found['phases'], found['clock'], found['agent']),
+         ([0, 0, 2, 1], 'second 0, clock 6 of 6', '1 at 3,2: carries task 2 to C, granted 3,1\n4 steps behind its plan, which is at 3,1\n3 steps left in its plan, tasks done lately: 0'))
+
+
+def test_keys() -> None:
+    chromium()
+    instance = read_instance(DELIVERIES, read_file(DELIVERIES))
+    made = page_of([data_of(read_log(instance, 'l', ''.join(LINES).encode()), 'deliveries', None, None)])
+    script = """bar.begin(); const found = [], press = (key, more = {}) => { document.body.dispatchEvent(new KeyboardEvent('keydown', {key, bubbles: true, cancelable: true, ...more}));
+      found.push([key, bar.now, bar.playing, players[0].shownWays, players[0].shownHeat, +document.querySelector('.speed').value, players[0].picked]); };
+    players[0].pick(1);
+    for (const key of ['ArrowRight', 'ArrowRight', 'ArrowLeft', 'End', 'Home', 'ArrowUp', 'ArrowDown', 'w', 'h', '+', '-', '0', ' ', ' ', 'Escape']) press(key);
+    press('ArrowRight', {shiftKey: true}); press('Home', {ctrlKey: true}); document.body.dataset.said = JSON.stringify(found);"""
+    found = said(dom(made.replace('bar.begin();', script), 'keys.html'))
+    same([row[0] for row in found if row[2]], [' '])    # plays between the two
+    rows = [[1, True, False, 4], [2, True, False, 4], [1, True, False, 4], [9, True, False, 4], [0, True, False, 4], [0, True, False, 8], [0, True, False, 4],
+            [0, False, False, 4], [0, False, True, 4]]
+    same([[row[1], *row[3:6]] for row in found[:len(rows)]], rows)
+    same(([row[1] for row in found[-2:]], [row[6] for row in found[-4:]]), ([9, 9], [1, -1, -1, -1]))
+
+
 def test_a_browser_shows_names_as_text() -> None:
     chromium()
     log = new(marked())
     instance = read_instance(DELIVERIES, read_file(DELIVERIES))
     shown = [dom(page_of([data_of(read_log(instance, log, read_file(log)), 'deliveries', None, None)]).replace('bar.begin();', 'bar.begin(); bar.go(9);'), 'a.html')]
-    # the live page with the server's events, from a source that is none of the network's
     floor = Follower(instance, 'deliveries', new(''.join(marked().splitlines(True)[:3])))
     floor.look()
-    events = [('run', floor.begun() | {'status': {'alarms': [MARKUP], 'figures': [[MARKUP, MARKUP]], 'ended': False}})]
-    source = 'class EventSource { addEventListener(kind, f) { for (const [k, d] of EVENTS) if (k == kind) setTimeout(() => f({data: JSON.stringify(d)})); } close() {} }'
-    data = json.dumps(events).replace('<', '\\u003c')
-    shown.append(dom(page(f'<script>const EVENTS = {data}; {source}</script><script>{asset("player.js")}</script><script>{asset("live.js")}</script>', SIDE), 'b.html'))
+    shown.append(live_dom([('run', floor.begun() | {'status': {'alarms': [MARKUP], 'figures': [[MARKUP, MARKUP]], 'ended': False}})], '', 'b.html'))
     for text in shown:
         same(('<img' in text, '&lt;img/src=x' in re.sub(r'(?s)<script.*?</script>', '', text), '<title>broken' in text), (False, True, False))
 
