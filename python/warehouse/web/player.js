@@ -5,7 +5,6 @@
 const NEVER = 2 ** 31 - 1, PHASES = ['open', 'assigned', 'carried', 'done'], dark = matchMedia('(prefers-color-scheme: dark)');
 const css = name => getComputedStyle(document.documentElement).getPropertyValue('--' + name).trim();
 const colour = a => `hsl(${(a * 137.508) % 360},60%,${dark.matches ? 45 : 38}%)`;
-const escaped = text => String(text).replace(/[&<>"']/g, c => `&#${c.charCodeAt(0)};`);
 function upTo(list, t, key) { let lo = 0, hi = list.length; while (lo < hi) { const m = (lo + hi) >> 1; key(list[m]) <= t ? lo = m + 1 : hi = m; } return lo; }
 function player(root) {
   const $ = name => root.querySelector('.' + name);
@@ -13,7 +12,7 @@ function player(root) {
   const self = {root, load, add, show, draw, theme, size, fit, zoom, strip, pick, toggle, heatMap, saying, onpick: () => {}, get T() { return T; }, get N() { return N; }, get base() { return BASE; }, get run() { return R; },
     get picked() { return picked; }, get shownWays() { return showWays; }, get shownHeat() { return showHeat; }};
   // With vehicles a moment is a second of their transcript, else a clock, counted from the run's first one.
-  let R, V, BASE, N = 0, T = 0, C = {}, X = [], byNumber = new Map(), own = null, E = [], kept = [], counts = [], busiest = 1, pointAt = new Map(), barred;
+  let R, loads = 0, V, BASE, N = 0, T = 0, C = {}, X = [], byNumber = new Map(), own = null, E = [], kept = [], counts = [], busiest = 1, pointAt = new Map(), barred;
   let S = 10, OX = 0, OY = 0, W = 0, H = 0, now = 0, picked = -1, showWays = true, showHeat = false, fitted = true, charted = -1;
   function colours() { for (const k of ['bg', 'fg', 'dim', 'line', 'floor', 'wall', 'point', 'wait', ...PHASES]) C[k] = css(k); }
   // ---- where everything is
@@ -244,12 +243,22 @@ function player(root) {
     if (V) panelLate();
     PHASES.forEach((p, i) => { $('n' + i).textContent = counts[i][t] + (p == 'done' && R.left_out || 0); });
     const key = t + ' ' + picked; if (key == listed) return; listed = key;
-    const lines = [], mine = e => picked < 0 || (e[2] == 'took' || e[2] == 'parked' || e[2] == 'replaced' ? e[3] == picked
-      : e[2] == 'visit' || e[2] == 'kept' ? byNumber.get(e[3])?.agent == picked : e[2] == 'refused' && String(e[3]).startsWith(`agent ${picked} `));
-    for (let i = n - 1; i >= 0 && lines.length < 120; i--) if (mine(E[i]))
-      lines.push(`<p${E[i][2] == 'refused' ? ' class=bad' : ''}><i>${Math.floor(E[i][0]) + BASE}</i> ${escaped(words(E[i]))}</p>`);
-    $('events').innerHTML = `<h2>Events up to now${picked < 0 ? '' : `, agent ${picked}`}, latest first (not listed: rested, E5)</h2>` + lines.join('');
+    listEvents(n);
     $('agent').textContent = picked < 0 ? 'select an agent' : about(picked, V ? now : t);
+  }
+  // Events up to now, the latest first. Where time has gone on a little only the new ones are added: all of them anew take longer than the picture.
+  const MOST_EVENTS = 120, element = (kind, words, cls = '') => Object.assign(document.createElement(kind), {textContent: words, className: cls});
+  let eventsOf = '', eventsTo = 0;
+  function eventRow(e) { const p = element('p', '', e[2] == 'refused' ? 'bad' : ''); p.append(element('i', Math.floor(e[0]) + BASE), ' ' + words(e)); return p; }
+  function listEvents(n) {
+    const mine = e => picked < 0 || (e[2] == 'took' || e[2] == 'parked' || e[2] == 'replaced' ? e[3] == picked
+      : e[2] == 'visit' || e[2] == 'kept' ? byNumber.get(e[3])?.agent == picked : e[2] == 'refused' && String(e[3]).startsWith(`agent ${picked} `));
+    const box = $('events'), of = `${loads} ${picked}`, on = of == eventsOf && n >= eventsTo, rows = [];
+    for (let i = n - 1; i >= (on ? eventsTo : 0) && rows.length < MOST_EVENTS; i--) if (mine(E[i])) rows.push(eventRow(E[i]));
+    if (on) box.firstElementChild.after(...rows);
+    else box.replaceChildren(element('h2', `Events up to now${picked < 0 ? '' : `, agent ${picked}`}, latest first (not listed: rested, E5)`), ...rows);
+    while (box.childElementCount > MOST_EVENTS + 1) box.lastElementChild.remove();
+    eventsOf = of; eventsTo = n;
   }
   function panelLate() {
     let late = 0, most = 0, who = -1; const held = V.held.find(h => h[0] <= now * 100 && (h[1] < 0 || now * 100 < h[1]));
@@ -327,7 +336,7 @@ function player(root) {
   // ---- a run, and what is new of it
   function load(run) {
     const same = R && R.width == run.width && R.height == run.height && N == run.ways.length, first = !R;
-    R = run; V = R.vehicles; BASE = V ? 0 : R.start; N = R.ways.length; kept = Array.from({length: N}, () => []);
+    R = run; loads++; V = R.vehicles; BASE = V ? 0 : R.start; N = R.ways.length; kept = Array.from({length: N}, () => []);
     if (!same) { picked = -1; fitted = true; }
     if (first) showWays = N <= 60;
     readFloor(); stays = []; stood = null; heatAt = 0; R.ways.forEach(list => list.forEach(note)); arrange();
