@@ -6,6 +6,7 @@ The program is that of WAREHOUSE, else the one that the gate built. A service un
 The last line is `N passed, M failed`, and `, K skipped` where a test needs what is not here; status 1 where one failed.
 """
 import functools
+import getpass
 import os
 import shutil
 import subprocess
@@ -14,6 +15,7 @@ import threading
 import time
 
 import counting
+from fleet_cast import broker_program, free_port, python_with_paho
 
 ROOT = os.path.dirname(os.path.dirname(os.path.abspath(__file__)))
 DEPLOY = f'{ROOT}/deploy'
@@ -136,6 +138,70 @@ def test_unit():
     assert (done.returncode, done.stderr) == (0, ''), done
     done = run('systemd-analyze', 'security', '--offline=true', '--threshold=10', f'{units}/warehouse@.service')
     assert done.returncode == 0, done
+
+
+# -------------------------------------------------------------------------------------------- the broker
+
+# Who hears a message: each line is user, topic, and those whom it reaches. The text is the line's number; what comes is printed.
+SAYS = '''
+import sys, time
+from warehouse.vda5050.broker import Address, Mqtt
+users = ('v0', 'v1', 'adapter', 'desk')
+links = {user: Mqtt(user, Address('127.0.0.1', int(sys.argv[1]), user, 'p-' + user), user) for user in users}
+for link in links.values():
+    link.subscribe([('#', 1)])
+    link.start()
+for user, link in links.items():
+    assert link.take(20), user
+time.sleep(0.5)
+lines = [line.split() for line in sys.stdin]
+for number, (user, topic) in enumerate(lines):
+    links[user].publish(topic, str(number), 1)
+links['adapter'].publish('warehouse/last', 'last', 1)
+came, until = {user: [] for user in users}, time.monotonic() + 20
+def take(user, wait):
+    came[user] += [message.payload.decode() for message in links[user].take(wait)]
+for user in ('adapter', 'desk'):
+    while 'last' not in came[user]:
+        assert time.monotonic() < until, (user, came)
+        take(user, 0.3)
+time.sleep(0.5)
+for user in users:
+    take(user, 0.1)
+for number, (user, topic) in enumerate(lines):
+    print(user, topic, *sorted(user for user in users if str(number) in came[user]))
+for link in links.values():
+    link.end()
+'''
+VEHICLE = 'uagv/v2/torchdaisy/v0/'
+HEARD = [*((f'v0 {VEHICLE}{topic}', 'adapter') for topic in ('state', 'connection', 'visualization', 'factsheet')),    # what a vehicle says of itself
+         *((f'v0 {VEHICLE}{topic}', '') for topic in ('order', 'instantActions')), ('v1 uagv/v2/torchdaisy/v0/state', ''), ('v0 warehouse/order', ''),
+         ('v0 warehouse/command', ''), *((f'adapter {VEHICLE}{topic}', 'adapter v0') for topic in ('order', 'instantActions')),
+         *((f'desk {VEHICLE}{topic}', '') for topic in ('order', 'state')), ('desk warehouse/order', 'adapter desk'), ('desk warehouse/command', ''),
+         ('adapter warehouse/order/o1', 'adapter desk'), ('adapter warehouse/status', 'adapter desk')]
+
+
+def test_access_list_of_the_broker() -> None:
+    """Each user may say and hear what the list says, and nothing else; one without a name may nothing."""
+    if not (broker_program() and python_with_paho() and shutil.which('mosquitto_passwd')):
+        raise counting.Skipped('no mosquitto, or no paho-mqtt (apt-get install mosquitto python3-paho-mqtt)')
+    folder, port = os.path.join(SCRATCH.name, 'broker'), free_port()
+    os.mkdir(folder)
+    for user in ('v0', 'v1', 'adapter', 'desk'):
+        done = run('mosquitto_passwd', *(['-c'] if user == 'v0' else []), '-b', f'{folder}/passwords', user, f'p-{user}')
+        assert done.returncode == 0, done
+    shutil.copy(f'{DEPLOY}/mosquitto-acl', f'{folder}/acl')
+    os.chmod(f'{folder}/acl', 0o600)
+    with open(f'{folder}/conf', 'w') as file:
+        file.write(f'user {getpass.getuser()}\nlistener {port} 127.0.0.1\nallow_anonymous false\npassword_file {folder}/passwords\nacl_file {folder}/acl\nlog_type error\n')
+    broker = subprocess.Popen([broker_program(), '-c', f'{folder}/conf'], stdin=subprocess.DEVNULL, stdout=subprocess.PIPE, stderr=subprocess.STDOUT)
+    try:
+        said = subprocess.run([python_with_paho(), '-c', SAYS, str(port)], input=''.join(f'{line}\n' for line, _ in HEARD), capture_output=True, text=True,
+                              timeout=SECONDS, env={**os.environ, 'PYTHONPATH': f'{ROOT}/python', 'PYTHONDONTWRITEBYTECODE': '1'})
+    finally:
+        broker.kill()
+    assert said.returncode == 0, (said, broker.stdout.read())
+    assert said.stdout.splitlines() == [f'{line} {heard}'.strip() for line, heard in HEARD], said.stdout
 
 
 # ------------------------------------------------------------------------------------------- the service
