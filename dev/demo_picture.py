@@ -61,7 +61,7 @@ def read_trace(path: str) -> Trace:
 class Film:
     def __init__(self, traces: list[Trace]):
         self.first = min(second for trace in traces for second, _ in trace.places[1:])
-        self.last = max(second for trace in traces for second, _ in trace.places)
+        self.last = max(second for trace in traces for second in (trace.places[-1][0], *(end for _, end, _ in trace.loads)))
         self.length = (self.last - self.first) / FASTER + HOLD
 
     def at(self, second: float) -> str:
