@@ -2,14 +2,18 @@
 """Tests of deploy/: the Debian package is made and has all that it should, its completion, manuals and Python command work, the unit is one that
 systemd takes, and its scripts serve three clients over pipes, end with them, and stop beside them.
 
-The program is that of WAREHOUSE, else the one that the gate built. A service under a running systemd is not tried, nor the container file.
-The last line is `N passed, M failed`, and `, K skipped` where a test needs what is not here; status 1 where one failed.
+    tests/tools_deploy.py
+    tests/tools_deploy.py --booted    by hand, as root: a Debian 12 of its own is booted (mmdebstrap, systemd-nspawn), and the package's service serves,
+                                      is killed, refused and stopped under its systemd
+
+The program is that of WAREHOUSE, else the one that the gate built. The container file is not tried. The last line is `N passed, M failed`, and `, K skipped` where a test needs what is not here; status 1 where one failed.
 """
 import functools
 import getpass
 import os
 import shutil
 import subprocess
+import sys
 import tempfile
 import threading
 import time
@@ -337,5 +341,73 @@ def test_service_refused():
     assert (service.returncode, out) == (1, '') and said.startswith('refused P'), (service.returncode, out, said)
 
 
+# ------------------------------------------------------------------------------------ a running systemd
+
+BOOTED = r'''
+cd /etc/warehouse/main
+is() { [[ $2 == "$3" ]] && echo "right: $1" || echo "wrong: $1: $2, and not $3"; }
+shown() { local name all=; for name; do all+="$(systemctl show warehouse@main -p "$name" --value) "; done; echo "${all% }"; }
+ask() { su -s /bin/sh warehouse -c "warehouse-py client --wait 10 /run/warehouse/main/$1" | paste -sd ';'; }
+systemctl enable --now warehouse@main 2> /dev/null
+is 'a client' "$(printf 'submit o a b\ntick\n' | ask desk)" 'entries 0;accepted 0;refused C3'
+is 'another' "$(printf 'token 0\ntick\n' | ask floor)" 'entries 0;took 0 path 0,2 0,1 0,0 1,0 2,0 3,0 4,0;clock 1 picked 0 dropped 0'
+systemctl kill -s KILL warehouse@main
+sleep 3
+is 'killed' "$(shown ActiveState NRestarts)" 'active 1'
+is 'it resumes' "$(printf 'tick\n' | ask floor)" 'entries 2;clock 2 picked 0 dropped 0'
+SECONDS=0
+systemctl stop warehouse@main
+is 'stopped' "$((SECONDS < 5)) $(shown ActiveState Result ExecMainStatus)" '1 inactive success 0'
+is 'the log has no end' "$(tail -n 1 /var/lib/warehouse/main/run.log)" '0 tick = clock 2 picked 0 dropped 0'
+cp points points.right; echo 'station c 9 9' >> points
+systemctl start warehouse@main; sleep 3
+is 'refused input' "$(shown ActiveState ExecMainStatus NRestarts)" 'failed 1 0'
+cp points.right points; cp options options.right; echo '--none' >> options; systemctl reset-failed warehouse@main
+systemctl start warehouse@main; sleep 3
+is 'refused words' "$(shown ActiveState ExecMainStatus NRestarts)" 'failed 2 0'
+grep -v ':stop' options.right > options; systemctl reset-failed warehouse@main
+systemctl start warehouse@main; sleep 1; systemctl stop warehouse@main
+is 'no client to stop it' "$(shown ActiveState Result ExecMainStatus)" 'inactive success 15'
+cp options.right options; systemctl reset-failed warehouse@main
+(cd /var/lib/warehouse/main && exec su -s /bin/sh warehouse -c 'exec flock -x run.log sleep 3') &
+sleep 1; systemctl start warehouse@main; sleep 1
+is 'another has the log' "$(shown ExecMainStatus)" 3
+sleep 5
+is 'it tries again' "$(shown ActiveState)" active
+is 'and closes' "$(printf 'close\n' | ask end); $(sleep 1; shown ActiveState Result NRestarts | cut -d ' ' -f 1,2); $(tail -n 1 /var/lib/warehouse/main/run.log)" 'entries 0;closed; inactive success; end 5'
+'''
+
+
+def booted() -> bool:
+    """Whether all is right; it prints each line."""
+    top = f'{SCRATCH.name}/booted'
+    subprocess.run(['mmdebstrap', '--quiet', '--variant=minbase', '--include=systemd-sysv,dbus,python3,adduser', 'bookworm', top], check=True)
+    shutil.copy(package()[0], f'{top}/warehouse.deb')
+    subprocess.run(['chroot', top, 'dpkg', '-i', '/warehouse.deb'], check=True, stdout=subprocess.DEVNULL)
+    os.makedirs(f'{top}/etc/warehouse/main')
+    for path, text in (('map', MAP), ('points', POINTS), ('options', read(f'{DEPLOY}/options'))):
+        with open(f'{top}/etc/warehouse/main/{path}', 'w') as it:
+            it.write(text)
+    shutil.copy(f'{DEPLOY}/tmpfiles.conf', f'{top}/etc/tmpfiles.d/warehouse.conf')
+    with open(f'{top}/judge', 'w') as it:
+        it.write(BOOTED)
+    machine = subprocess.Popen(['systemd-nspawn', '--quiet', '--register=no', '--keep-unit', '--private-network', '-D', top, '-b'], stdin=subprocess.DEVNULL,
+                               stdout=subprocess.DEVNULL, stderr=subprocess.DEVNULL)
+    try:
+        inside, until = [], time.monotonic() + 60
+        while not inside or not os.path.exists(f'/proc/{inside[0]}/root/run/warehouse/main/stop/in'):
+            assert time.monotonic() < until, 'it does not boot'
+            inside = run('pgrep', '-P', str(machine.pid)).stdout.split()
+            time.sleep(1)
+        said = run('nsenter', '-t', inside[0], '-m', '-u', '-i', '-n', '-p', '--', 'bash', '/judge')
+    finally:
+        machine.terminate()
+        machine.wait()
+    print(said.stdout + said.stderr, end='')
+    return said.stdout.count('right: ') == len(said.stdout.splitlines()) == BOOTED.count('\nis ')
+
+
 if __name__ == '__main__':
+    if sys.argv[1:] == ['--booted']:
+        sys.exit(not booted())
     counting.main(globals(), [it for it in globals() if it.startswith('test_')], SCRATCH)
