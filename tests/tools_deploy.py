@@ -128,6 +128,8 @@ def test_python_command():
     done = run(f'{top}/usr/bin/warehouse-py', 'make-instance', '--columns', '20', '--rows', '12', '--agents', '2', '--tasks', '3', env=env)
     assert done.returncode == 0 and done.stdout.startswith('type octile\n'), done
     assert run(f'{top}/usr/bin/warehouse-py', 'no-such', env=env).returncode == 2
+    for words, usage in ((['--help'], 'usage: warehouse-py SUBCOMMAND ..\n'), (['stats', '--help'], 'usage: warehouse-py stats ')):
+        assert run(f'{top}/usr/bin/warehouse-py', *words, env=env).stdout.startswith(usage), words
 
 
 def test_unit():
