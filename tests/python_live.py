@@ -492,6 +492,9 @@ def test_the_page_continues_with_the_next_log() -> None:
         append(later, LINES[8])
         news = listener.news()[0]
         same((news['clock'], news['entries'], news['events']), (3, 1, []))
+        append(last, ''.join(LINES[:3]))    # of a run of its own
+        until(lambda: get(server, '/health') == (503, json.dumps({'alarms': [f'{last} begins with no state']}) + '\n'))
+        os.remove(last)
         append(last, front_of(text, 3).replace('after 1', 'after 2'))    # of another log
         until(lambda: get(server, '/health') == (503, json.dumps({'alarms': [f'{last} does not continue {later}']}) + '\n'))
         listener.close()

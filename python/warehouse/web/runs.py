@@ -32,13 +32,14 @@ class Runs:
         self.keys, self.opening = Tail(log + '.keys'), Opening()
         self.later = list(later)    # logs that continue it one after the other, and have not begun yet
         self.number, self.wrong = 1, ''
+        self.floor: Follower | None = None    # that follows the last of them that has begun
 
     def follower(self) -> Follower:
         """Of the run that goes on."""
         number = self.opening.number
         if number == 1:
             floor = Follower(self.base, self.title if self.number == 1 else f'{self.title}, {os.path.basename(self.log)}', self.log, self.ahead)
-            floor.wrong = self.wrong
+            floor.wrong, self.floor = self.wrong, floor
             return floor
         floor = Follower(instance_of(self.base, self.opening), f'{self.title}, run {number}', f'{self.log}.{number}', self.ahead)
         floor.out = self.opening.out
@@ -55,15 +56,21 @@ class Runs:
 
     def has_begun(self, name: str) -> bool:
         """Whether this log, which is to continue the one that goes on, has its state."""
+        if self.floor:
+            self.floor.wrong = self.wrong
         try:
             with open(name, 'rb') as file:
                 run = read_front(self.base, name, file)
+                file.seek(0)
+                head = [file.readline() for _ in range(2)]
         except OSError:    # it comes later
             return False
         except Fault:      # the page says so once it follows it
             self.wrong = ''
             return True
         if run is None or run.front is None:
+            if self.floor and head[1].endswith(b'\n') and not head[1].startswith(b'after '):
+                self.floor.wrong = f'{name} begins with no state'
             return False
         self.wrong = '' if continues(run.front, self.log) else f'{name} does not continue {self.log}'
         return True
