@@ -10,10 +10,10 @@ ROOT = os.path.dirname(os.path.dirname(os.path.abspath(__file__)))
 sys.path.insert(0, os.path.join(ROOT, 'python'))
 
 from warehouse.vda5050 import cast    # noqa: E402
-from warehouse.vda5050.cast import broker_program, python_with_paho    # noqa: E402
+from warehouse.vda5050.cast import broker_program, free_port, python_with_paho    # noqa: E402
 from warehouse.vda5050.traces import Judge    # noqa: E402
 
-__all__ = ['Cast', 'Judge', 'broker_program', 'keys_of', 'python_with_paho', 'run_fleet']
+__all__ = ['Cast', 'Judge', 'broker_program', 'free_port', 'keys_of', 'python_with_paho', 'run_fleet']
 
 
 class Cast(cast.Cast):

@@ -17,6 +17,7 @@ import subprocess
 import sys
 import time
 import types
+import xml.etree.ElementTree as tree
 from concurrent.futures import Future, ThreadPoolExecutor
 
 import counting
@@ -268,6 +269,35 @@ def test_the_judge_of_traces() -> None:
     # one that was killed as it arrived is in its new cell alone
     killed = judged(v0='1.0 in 0_0\n2.0 in 1_0\n4.0 here 1_0\n', v1='1.0 in 0_1\n4.5 in 0_0\n')
     same(killed.wrong, [])
+
+
+# ------------------------------------------------------------------------------------- the README's picture
+
+def test_the_picture_of_a_demo() -> None:
+    """By hand: v0 goes from 0,0 to 1,0 in a second, is killed on its way to 2,0 with a load, and is there two seconds later; a film's second is four."""
+    folder = os.path.join(SCRATCH.name, 'kept')
+    os.mkdir(folder)
+    texts = {'floor': 'type octile\nheight 1\nwidth 4\nmap\n....\n%%\nstation A 1 0\nstation B 3 0\nparking P 0 0\nagent P\n%%\n',
+             'orders.csv': 'key,client,stops,at\no0,c,A B,0\n',
+             'v0.trace': '8.0 in 0_0\n10.0 in 1_0\n11.0 out 0_0\n11.0 pick o0\n12.0 in 2_0\n14.0 here 1_0,2_0\n15.0 out 1_0\n15.0 in 3_0\n16.0 out 2_0\n18.0 drop o0\n'}
+    for name, text in texts.items():
+        with open(os.path.join(folder, name), 'w') as file:
+            file.write(text)
+    done = subprocess.run([sys.executable, os.path.join(ROOT, 'dev', 'demo_picture.py'), folder], capture_output=True, text=True, timeout=SECONDS)
+    same((done.returncode, done.stderr), (0, ''))
+    root = tree.fromstring(done.stdout)
+    moves = root.find('.//{*}animateTransform').attrib
+    # eight seconds to 18, and two of the film's that it holds: 4 of them in all
+    same(moves['dur'], '4.0s')
+    way = [(round(float(key) * 16, 1), place) for key, place in zip(moves['keyTimes'].split(';'), moves['values'].split(';'))]
+    same([one for one, after in zip(way, [*way[1:], None]) if one != after],
+         [(0, '16,16'), (1, '48,16'), (4, '48,16'), (5, '80,16'), (6, '112,16'), (16, '112,16')])
+    ring, load = (root.find(f".//{{*}}{name}/{{*}}animate").attrib['keyTimes'].split(';') for name in ('circle', 'rect'))
+    same([[round(float(key) * 16, 1) for key in one] for one in (ring, load)], [[0, 2, 4], [0, 1, 8]])
+    for name in ('demo.svg',):    # the one that README has
+        with open(os.path.join(ROOT, 'docs', name)) as file:
+            picture = file.read()
+        same((len(picture) < 500_000, len(tree.fromstring(picture).findall('.//{*}animateTransform'))), (True, 20))
 
 
 if __name__ == '__main__':

@@ -2,7 +2,6 @@
 """Tests of the page of a running floor (`dashboard`), over files that grow as a service's do.
 
     tests/python_live.py [--no-program]
-    tests/python_live.py --frames INSTANCE LOG [TRANSCRIPT]    what the player takes for each of 300 frames, in headless Chromium
 
 The program is that of WAREHOUSE, else the one that the gate built. The last line is `N passed, M failed`, and `, K skipped` where a test needs what is
 not here; status 1 where one failed.
@@ -10,43 +9,50 @@ not here; status 1 where one failed.
 from __future__ import annotations
 
 import contextlib
-import html
+import hashlib
 import http.client
+import itertools
 import json
 import os
+import random
 import re
-import shutil
 import subprocess
 import sys
 import threading
 import time
+from collections import deque
 from typing import Iterator
 
 import counting
-from tools_drive import ENVIRONMENT, ROOT, SCRATCH, file, has, same, text_of
+from tools_drive import ENVIRONMENT, PROGRAM, ROOT, SCRATCH, file, has, same, text_of
 
 sys.path.insert(0, os.path.join(ROOT, 'python'))
 sys.dont_write_bytecode = True
 
-from warehouse.figures.play import page as page_of    # noqa: E402
-from warehouse.texts import read_arrivals, read_file, read_instance, read_log    # noqa: E402
-from warehouse.web import asset, page    # noqa: E402
-from warehouse.web.dashboard import SIDE, Server, serve    # noqa: E402
+from warehouse.fleet import POLICIES, Fleet    # noqa: E402
+from warehouse.replies import Go, Reply    # noqa: E402
+from warehouse.session import Session, Vehicles    # noqa: E402
+from warehouse.texts import read_arrivals, read_file, read_instance, read_log, read_orders    # noqa: E402
+from warehouse.web.dashboard import Server, serve    # noqa: E402
 from warehouse.web.data import data_of    # noqa: E402
 from warehouse.web.follow import Follower    # noqa: E402
+from warehouse.web.runs import continues    # noqa: E402
 from warehouse.web.tail import Tail    # noqa: E402
 
 DELIVERIES = os.path.join(ROOT, 'examples', 'deliveries')
 SHELVES = os.path.join(ROOT, 'examples', 'shelves')
 LINES = text_of('examples', 'deliveries.log').splitlines(keepends=True)
-MARKUP = '<img/src=x/onerror=document.title="broken">'
-NEEDS_PROGRAM = ['test_grants_are_those_of_the_program', 'test_a_page_begins_in_the_middle']
+NAMES = itertools.count()
+NEEDS_PROGRAM = ['test_a_state_of_the_program_is_continued', 'test_grants_are_those_of_the_program', 'test_a_page_begins_in_the_middle']
 
 
 def new(text: str = '') -> str:
     """A log of its own, with nothing beside it."""
     new.count = getattr(new, 'count', 0) + 1
     return file(f'log-{new.count}', text)
+
+
+new.name = lambda: os.path.join(SCRATCH.name, f'log-{next(NAMES)}-later')
 
 
 def append(name: str, text: str) -> None:
@@ -125,9 +131,35 @@ def late() -> tuple[str, list[str], list[str]]:
     return late.kept
 
 
-def steps_of(lines: list[str], told: list[str]) -> Iterator[tuple[str, str, str]]:
+def moved(log: str, orders: list, ticks: int, seed: int) -> list[str]:
+    """Late vehicles over a log for so many ticks, each told step reported at chance moments, and the program killed then: what it told."""
+    chance, told = random.Random(seed), []
+    with Session(read_instance(SHELVES, read_file(SHELVES)).with_nofollow(), PROGRAM, log=log, vehicles=Vehicles(8, 3), replies='full') as core:
+        due: list[deque[int]] = [deque() for _ in core.instance.starts]
+
+        def hear(line: str, reply: Reply) -> None:
+            new = core.take_told()
+            told.extend(f'0 {one}' for one in (reply, *new))
+            for one in new:
+                if isinstance(one, Go):
+                    due[one.agent].append(one.step)
+        fleet = Fleet(core, orders, POLICIES['number'], listen=hear, state=core.state)
+        fleet.policy(fleet)
+        while fleet.clock < ticks:
+            if fleet.held is None and fleet.tick():
+                fleet.policy(fleet)
+            for agent, steps in enumerate(due):
+                if steps and chance.random() < .75:
+                    step = steps.popleft()
+                    hear(f'at {agent} {step}', core.at(agent, step))
+                    fleet.held = None if fleet.held == agent else fleet.held
+        core.kill()
+    return told
+
+
+def steps_of(lines: list[str], told: list[str], head: int = 2) -> Iterator[tuple[str, str, str]]:
     """What the files get with each line that the program wrote: entries of the log, reports, and the line."""
-    entries = iter(lines[2:])
+    entries = iter(lines[head:])
     for said in told:
         words = said.split(' ')[1:]
         entry = words[0] in ('accepted', 'took', 'parked', 'rested', 'clock') or words[:2] == ['refused', 'E6']
@@ -193,6 +225,49 @@ def test_grants_are_those_of_the_program() -> None:
                 reports.write(report)
                 pending, due = True, []
     same((count['go'] > 1000, count['visited'] > 50), (True, True))
+
+
+def test_a_state_of_the_program_is_continued() -> None:
+    """A run with late vehicles is killed at clock 120, and its state begins another log: line by line, what the program tells there, in a view that
+    began with that log, and where one begins in the middle of it."""
+    first, later = new.name(), new.name()
+    moved(first, read_orders(SHELVES, read_file(SHELVES)), 120, 1)
+    instance = read_instance(SHELVES, read_file(SHELVES)).with_nofollow()
+    with open(later, 'wb') as log:
+        log.write(subprocess.run([PROGRAM, 'state', '--log', first], input=instance.text, stdout=subprocess.PIPE, check=True).stdout)
+    told = moved(later, [], 150, 2)
+    with open(later) as log:
+        lines = log.read().splitlines(keepends=True)
+    head = lines.index('begin\n') + 1
+    name = new(''.join(lines[:head]))
+    file(os.path.basename(name) + '.at', f'front 1 {"a" * 64}\n')
+    floor, due, count, began, seen = Follower(instance, 'shelves', name, 3), [], 0, 0, None
+    floor.look()
+    run = floor.run
+    before = {number: task.before for number, task in enumerate(run.tasks)}
+    same((run.start, continues(run.front, first), sum(before.values()) > 30, floor.vehicles.behind()), (120, True, True, [0] * len(run.paths)))
+    for entry, report, said in steps_of(lines, told, head):
+        kind, *words = said.split(' ')
+        if kind == 'go':
+            due.append((kind, words[0], str(int(words[1]) + 120), words[2]))
+        elif kind == 'visited' and int(words[2]) >= before[int(words[1])]:    # visits of the state are told again
+            due.append((kind, *words))
+        elif entry or report:
+            news = (seen or floor.look() or {}).get('vehicles') or {'visits': [], 'go': []}
+            found = [('visited', run.tasks[task].agent, task, k) for task, _, k in news['visits']]
+            found += [('go', agent, step, ','.join(map(str, run.cell_at(agent, step)))) for agent, _, step in news['go']]
+            same(sorted(tuple(map(str, one)) for one in found), sorted(due))
+            append(name, entry)
+            append(name + '.at', report)
+            count, due, seen = count + len(due), [], None
+            if entry.startswith('62 tick = clock 1') and int(entry.split(' ')[4]) % 10 == 0:
+                seen = floor.look()
+                middle = Follower(instance, 'shelves', name, 3)
+                middle.look()
+                one, other = ((each.done, each.vehicles.behind(), [each.vehicles.cells(agent) for agent in range(len(run.paths))]) for each in (floor, middle))
+                same(one, other)
+                began += 1
+    same((count > 200, began), (True, 3))
 
 
 def test_news_add_up_to_the_run() -> None:
@@ -378,6 +453,81 @@ def test_the_page_goes_on_with_the_next_run() -> None:
         same(run['title'], 'deliveries, run 3')
 
 
+def front_of(text: str, clock: int = 2) -> str:
+    """The state to which the first lines of examples/deliveries.log lead, at clock 2."""
+    return f"""wlog 3
+after 1 {len(text)} {hashlib.sha256(text.encode()).hexdigest()}
+state {clock} open whole
+entries 0:6
+agents 2
+agent slots 4 path 1,0 1,1 2,1 3,1 3,0
+agent slots 4 path 3,2 3,1 3,1 3,2 3,1 2,1 1,1 1,2
+tasks 2
+task 0 x 0 agent 0 visits 2 stops 1,0 3,0
+task 0 y 0 agent 1 visits 2 stops 3,2 1,2
+begin
+"""
+
+
+def test_the_page_continues_with_the_next_log() -> None:
+    """From the state that the log before had: agents, loads, orders, clock and counts are those of the state, and what is new comes behind it."""
+    text = ''.join(LINES[:8])
+    log, later, last = new(text), new.name(), new.name()
+    with served(log, later=[later, last]) as server:
+        listener = Page(server)
+        same(listener.event()[1]['front'], None)
+        append(later, front_of(text)[:-20])    # no page sees half of it
+        append(log, '')
+        append(later, front_of(text)[-20:])
+        kind, run, _ = listener.event()
+        while kind != 'run':
+            kind, run, _ = listener.event()
+        same((run['title'], run['front'], run['start'], run['clock'], run['left_out']),
+             (f'deliveries, {os.path.basename(later)}', {'log': 2, 'clock': 2, 'kind': 'whole', 'entries': 6, 'done': []}, 2, 2, 0))
+        same(run['ways'], [[[2, 1, 0, 0, -1, 'DRRU']], [[2, 3, 2, 1, -1, 'U.DULLD']]])
+        same(([task[:6] for task in run['tasks']], run['events']),
+             ([['x', [2, 3], 0, 0, 2, [2, 6]], ['y', [5, 4], 0, 1, 2, [2, 9]]], [[2, 0, 'began', 6], [2, 0, 'kept', 0, 1], [2, 0, 'kept', 1, 1]]))
+        same(get(server, '/health'), (200, '{"alarms": []}\n'))
+        has(get(server, '/metrics')[1], 'warehouse_entries_total 6\n', 'warehouse_log 2\n', 'warehouse_tasks{phase="carried"} 2\n')
+        append(later, LINES[8])
+        news = listener.news()[0]
+        same((news['clock'], news['entries'], news['events']), (3, 1, []))
+        append(last, ''.join(LINES[:3]))    # of a run of its own
+        until(lambda: get(server, '/health') == (503, json.dumps({'alarms': [f'{last} begins with no state']}) + '\n'))
+        os.remove(last)
+        append(last, front_of(text, 3).replace('after 1', 'after 2'))    # of another log
+        until(lambda: get(server, '/health') == (503, json.dumps({'alarms': [f'{last} does not continue {later}']}) + '\n'))
+        listener.close()
+    with served(log, later=[later, last]) as server:    # one that begins now has the last of them
+        kind, run, _ = Page(server).event()
+        while kind != 'run' or run['front'] is None:
+            kind, run, _ = Page(server).event()
+        same((run['front']['log'], run['front']['clock']), (3, 3))
+
+
+def test_all_that_is_done_is_counted() -> None:
+    """A page has the last minutes, and counts what was done before them; an agent's tasks are visited in their turn, whatever their numbers."""
+    rest = ''.join(f'0 tick = clock {clock} picked 0 dropped 0\n' for clock in range(10, 1000))
+    log = new(''.join(LINES[:-2]).replace('0 close = closed\n', '') + rest)
+    floor = Follower(read_instance(DELIVERIES, read_file(DELIVERIES)), 'deliveries', log)
+    floor.look()
+    run = floor.begun()
+    same((floor.done, run['tasks'], run['left_out']), (2, [], 2))
+    # agent 0 takes task 1 first, and task 0 behind it
+    log = new('''wlog 2
+start 0 slots 4 4
+0 submit x B A = accepted 0
+0 submit x A B = accepted 1
+0 token 0 = took 1 path 0,1 1,1 1,0 1,1 2,1 3,1 3,0
+''' + ''.join(f'0 tick = clock {clock} picked {int(clock == 2)} dropped {int(clock == 6)}\n' for clock in range(1, 7)) + '''0 token 0 = took 0 path 3,0 3,1 2,1 1,1 1,0
+0 tick = clock 7 picked 0 dropped 0
+''')
+    file(os.path.basename(log) + '.at', 'at 0 0\nat 0 6\n')
+    floor = Follower(read_instance(DELIVERIES, read_file(DELIVERIES)), 'deliveries', log)
+    floor.look()
+    same((floor.done, floor.is_done(1), floor.is_done(0), len(floor.vehicles.visits[0])), (1, True, False, 1))
+
+
 def test_a_page_that_goes_away() -> None:
     log = new(''.join(LINES[:6]))
     with served(log) as server:
@@ -416,6 +566,7 @@ def test_what_is_old_is_dropped() -> None:
 
 def test_it_listens_at_home() -> None:
     same(run_here('--help').count('127.0.0.1') > 1, True)
+    has(run_here('--help'), 'INSTANCE LOG [LOG ...]')
     for words, told in ((['/none', 'log'], '/none'), ([DELIVERIES, 'log', '--port', '70000'], '--port'), ([DELIVERIES, 'log', '--ahead', '0'], '--ahead')):
         has(run_here(*words), told)
 
@@ -426,105 +577,5 @@ def run_here(*words: str) -> str:
     return done.stdout + done.stderr
 
 
-# ------------------------------------------------------------------------------------------- the pages
-
-def marked() -> str:
-    """A log in which a client is named with markup."""
-    return ''.join(LINES).replace('submit x A B', f'submit {MARKUP} A B')
-
-
-def test_names_put_no_html_into_pages() -> None:
-    log = new(marked())
-    with served(log) as server:
-        listener = Page(server)
-        same(listener.event()[1]['tasks'][0][0], MARKUP)
-        status, text = get(server, '/')
-        same((status, '<img' in text), (200, False))
-        connection = http.client.HTTPConnection(*server.server_address[:2])
-        connection.request('GET', '/')
-        policy = connection.getresponse().headers['Content-Security-Policy']
-        has(policy, "default-src 'none'", "script-src 'self'")
-        listener.close()
-    instance = read_instance(DELIVERIES, read_file(DELIVERIES))
-    same('<img' in page_of([data_of(read_log(instance, log, read_file(log)), MARKUP, None, None)]), False)
-    for name in ('player.js', 'live.js', 'finished.js'):    # what is set as HTML are the page's own words, or is escaped
-        for line in asset(name).splitlines():
-            if 'innerHTML' in line and '${' in line:
-                assert not re.search(r'\$\{(?!R\.live)(?:R|X|E|run|client|name)\b', line), line
-
-
-def words_shown() -> str:
-    """The words that pages show: text of the page, literals of scripts and of alarms."""
-    scripts = '\n'.join(re.sub(r'//.*', '', asset(name)) for name in ('player.js', 'live.js', 'finished.js', 'status.py', 'reports.py'))
-    literals = re.findall(r"'((?:[^'\\\n]|\\.)*)'|`([^`]*)`", scripts)
-    return re.sub(r'\$?\{[^}]*\}', ' ', ' \n'.join(map(''.join, literals))) + html.unescape(re.sub(r'(?s)<style>.*?</style>', '', page('', SIDE)))
-
-
-def test_words_are_the_fields() -> None:
-    shown = words_shown()
-    for line in text_of('tests', 'docs_words').splitlines():
-        if line.strip() and not line.startswith('#'):
-            word = line.split('|')[0].strip()
-            found = re.search(rf'(?<![\w-]){re.escape(word)}(?![\w-])', shown, re.IGNORECASE)
-            assert not found, (word, shown[max(0, found.start() - 60):found.end() + 40])
-
-
-def chromium() -> str:
-    for name in ('chromium', 'chromium-browser', 'google-chrome'):
-        if found := shutil.which(name):
-            return found
-    raise counting.Skipped('no Chromium (apt-get install chromium)')
-
-
-def dom(text: str, name: str, seconds: float = 60) -> str:
-    """The page as it is after its scripts have run."""
-    path = os.path.join(SCRATCH.name, name)
-    with open(path, 'w', encoding='utf-8') as made:
-        made.write(text)
-    words = ['--headless', '--no-sandbox', '--disable-gpu', f'--user-data-dir={os.path.join(SCRATCH.name, "browser")}', '--window-size=1400,800',
-             '--dump-dom', f'file://{path}']
-    done = subprocess.run([chromium(), *words], capture_output=True, text=True, timeout=seconds)
-    assert done.returncode == 0, done.stderr
-    return done.stdout
-
-
-def test_a_browser_shows_names_as_text() -> None:
-    chromium()
-    log = new(marked())
-    instance = read_instance(DELIVERIES, read_file(DELIVERIES))
-    shown = [dom(page_of([data_of(read_log(instance, log, read_file(log)), 'deliveries', None, None)]).replace('bar.begin();', 'bar.begin(); bar.go(9);'), 'a.html')]
-    # the live page with the server's events, from a source that is none of the network's
-    floor = Follower(instance, 'deliveries', new(''.join(marked().splitlines(True)[:3])))
-    floor.look()
-    events = [('run', floor.begun() | {'status': {'alarms': [MARKUP], 'figures': [[MARKUP, MARKUP]], 'ended': False}})]
-    source = 'class EventSource { addEventListener(kind, f) { for (const [k, d] of EVENTS) if (k == kind) setTimeout(() => f({data: JSON.stringify(d)})); } close() {} }'
-    data = json.dumps(events).replace('<', '\\u003c')
-    shown.append(dom(page(f'<script>const EVENTS = {data}; {source}</script><script>{asset("player.js")}</script><script>{asset("live.js")}</script>', SIDE), 'b.html'))
-    for text in shown:
-        same(('<img' in text, '&lt;img/src=x' in re.sub(r'(?s)<script.*?</script>', '', text), '<title>broken' in text), (False, True, False))
-
-
-# ------------------------------------------------------------------------------------- frames, by hand
-
-FRAMES = """
-// Ten stretches of the run, each played for 30 frames, five times over; a frame's own time is that of the script that draws it. The
-// least of five is what the frame takes where nothing else has the processor.
-const n = 300, rounds = Array.from({length: 5}, () => Array.from({length: n}, (_, i) => {
-  const b = performance.now(); bar.go(players[0].T * (Math.floor(i / 30) + .5) / 10 + i % 30 * .27); return performance.now() - b;
-}));
-const told = list => { list.sort((a, b) => a - b); return `median ${list[n / 2].toFixed(1)} ms, 95th percentile ${list[Math.ceil(.95 * n) - 1].toFixed(1)} ms`; };
-document.body.dataset.frames = `least of five: ${told(rounds[0].map((_, i) => Math.min(...rounds.map(r => r[i]))))}; once: ${told(rounds[0])}`;
-"""
-
-
-def frames(instance: str, log: str, *told: str) -> str:
-    made = subprocess.run([sys.executable, os.path.join(ROOT, 'tools', 'play.py'), instance, log, *(['--vehicles', told[0]] if told else [])],
-                          capture_output=True, text=True, check=True).stdout
-    return re.search(r'data-frames="([^"]*)"', dom(made.replace('bar.begin();', 'bar.begin();' + FRAMES), 'frames.html', 300))[1]
-
-
 if __name__ == '__main__':
-    if sys.argv[1:2] == ['--frames']:
-        print(frames(*sys.argv[2:]))
-        sys.exit()
     counting.main(globals(), NEEDS_PROGRAM, SCRATCH)

@@ -2,18 +2,24 @@
 """Tests of deploy/: the Debian package is made and has all that it should, its completion, manuals and Python command work, the unit is one that
 systemd takes, and its scripts serve three clients over pipes, end with them, and stop beside them.
 
-The program is that of WAREHOUSE, else the one that the gate built. A service under a running systemd is not tried, nor the container file.
-The last line is `N passed, M failed`, and `, K skipped` where a test needs what is not here; status 1 where one failed.
+    tests/tools_deploy.py
+    tests/tools_deploy.py --booted    by hand, as root: a Debian 12 of its own is booted (mmdebstrap, systemd-nspawn), and the package's service serves,
+                                      is killed, refused and stopped under its systemd
+
+The program is that of WAREHOUSE, else the one that the gate built. The container file is not tried. The last line is `N passed, M failed`, and `, K skipped` where a test needs what is not here; status 1 where one failed.
 """
 import functools
+import getpass
 import os
 import shutil
 import subprocess
+import sys
 import tempfile
 import threading
 import time
 
 import counting
+from fleet_cast import broker_program, free_port, python_with_paho
 
 ROOT = os.path.dirname(os.path.dirname(os.path.abspath(__file__)))
 DEPLOY = f'{ROOT}/deploy'
@@ -122,6 +128,8 @@ def test_python_command():
     done = run(f'{top}/usr/bin/warehouse-py', 'make-instance', '--columns', '20', '--rows', '12', '--agents', '2', '--tasks', '3', env=env)
     assert done.returncode == 0 and done.stdout.startswith('type octile\n'), done
     assert run(f'{top}/usr/bin/warehouse-py', 'no-such', env=env).returncode == 2
+    for words, usage in ((['--help'], 'usage: warehouse-py SUBCOMMAND ..\n'), (['stats', '--help'], 'usage: warehouse-py stats ')):
+        assert run(f'{top}/usr/bin/warehouse-py', *words, env=env).stdout.startswith(usage), words
 
 
 def test_unit():
@@ -136,6 +144,70 @@ def test_unit():
     assert (done.returncode, done.stderr) == (0, ''), done
     done = run('systemd-analyze', 'security', '--offline=true', '--threshold=10', f'{units}/warehouse@.service')
     assert done.returncode == 0, done
+
+
+# -------------------------------------------------------------------------------------------- the broker
+
+# Who hears a message: each line is user, topic, and those whom it reaches. The text is the line's number; what comes is printed.
+SAYS = '''
+import sys, time
+from warehouse.vda5050.broker import Address, Mqtt
+users = ('v0', 'v1', 'adapter', 'desk')
+links = {user: Mqtt(user, Address('127.0.0.1', int(sys.argv[1]), user, 'p-' + user), user) for user in users}
+for link in links.values():
+    link.subscribe([('#', 1)])
+    link.start()
+for user, link in links.items():
+    assert link.take(20), user
+time.sleep(0.5)
+lines = [line.split() for line in sys.stdin]
+for number, (user, topic) in enumerate(lines):
+    links[user].publish(topic, str(number), 1)
+links['adapter'].publish('warehouse/last', 'last', 1)
+came, until = {user: [] for user in users}, time.monotonic() + 20
+def take(user, wait):
+    came[user] += [message.payload.decode() for message in links[user].take(wait)]
+for user in ('adapter', 'desk'):
+    while 'last' not in came[user]:
+        assert time.monotonic() < until, (user, came)
+        take(user, 0.3)
+time.sleep(0.5)
+for user in users:
+    take(user, 0.1)
+for number, (user, topic) in enumerate(lines):
+    print(user, topic, *sorted(user for user in users if str(number) in came[user]))
+for link in links.values():
+    link.end()
+'''
+VEHICLE = 'uagv/v2/torchdaisy/v0/'
+HEARD = [*((f'v0 {VEHICLE}{topic}', 'adapter') for topic in ('state', 'connection', 'visualization', 'factsheet')),    # what a vehicle says of itself
+         *((f'v0 {VEHICLE}{topic}', '') for topic in ('order', 'instantActions')), ('v1 uagv/v2/torchdaisy/v0/state', ''), ('v0 warehouse/order', ''),
+         ('v0 warehouse/command', ''), *((f'adapter {VEHICLE}{topic}', 'adapter v0') for topic in ('order', 'instantActions')),
+         *((f'desk {VEHICLE}{topic}', '') for topic in ('order', 'state')), ('desk warehouse/order', 'adapter desk'), ('desk warehouse/command', ''),
+         ('adapter warehouse/order/o1', 'adapter desk'), ('adapter warehouse/status', 'adapter desk')]
+
+
+def test_access_list_of_the_broker() -> None:
+    """Each user may say and hear what the list says, and nothing else; one without a name may nothing."""
+    if not (broker_program() and python_with_paho() and shutil.which('mosquitto_passwd')):
+        raise counting.Skipped('no mosquitto, or no paho-mqtt (apt-get install mosquitto python3-paho-mqtt)')
+    folder, port = os.path.join(SCRATCH.name, 'broker'), free_port()
+    os.mkdir(folder)
+    for user in ('v0', 'v1', 'adapter', 'desk'):
+        done = run('mosquitto_passwd', *(['-c'] if user == 'v0' else []), '-b', f'{folder}/passwords', user, f'p-{user}')
+        assert done.returncode == 0, done
+    shutil.copy(f'{DEPLOY}/mosquitto-acl', f'{folder}/acl')
+    os.chmod(f'{folder}/acl', 0o600)
+    with open(f'{folder}/conf', 'w') as file:
+        file.write(f'user {getpass.getuser()}\nlistener {port} 127.0.0.1\nallow_anonymous false\npassword_file {folder}/passwords\nacl_file {folder}/acl\nlog_type error\n')
+    broker = subprocess.Popen([broker_program(), '-c', f'{folder}/conf'], stdin=subprocess.DEVNULL, stdout=subprocess.PIPE, stderr=subprocess.STDOUT)
+    try:
+        said = subprocess.run([python_with_paho(), '-c', SAYS, str(port)], input=''.join(f'{line}\n' for line, _ in HEARD), capture_output=True, text=True,
+                              timeout=SECONDS, env={**os.environ, 'PYTHONPATH': f'{ROOT}/python', 'PYTHONDONTWRITEBYTECODE': '1'})
+    finally:
+        broker.kill()
+    assert said.returncode == 0, (said, broker.stdout.read())
+    assert said.stdout.splitlines() == [f'{line} {heard}'.strip() for line, heard in HEARD], said.stdout
 
 
 # ------------------------------------------------------------------------------------------- the service
@@ -271,5 +343,73 @@ def test_service_refused():
     assert (service.returncode, out) == (1, '') and said.startswith('refused P'), (service.returncode, out, said)
 
 
+# ------------------------------------------------------------------------------------ a running systemd
+
+BOOTED = r'''
+cd /etc/warehouse/main
+is() { [[ $2 == "$3" ]] && echo "right: $1" || echo "wrong: $1: $2, and not $3"; }
+shown() { local name all=; for name; do all+="$(systemctl show warehouse@main -p "$name" --value) "; done; echo "${all% }"; }
+ask() { su -s /bin/sh warehouse -c "warehouse-py client --wait 10 /run/warehouse/main/$1" | paste -sd ';'; }
+systemctl enable --now warehouse@main 2> /dev/null
+is 'a client' "$(printf 'submit o a b\ntick\n' | ask desk)" 'entries 0;accepted 0;refused C3'
+is 'another' "$(printf 'token 0\ntick\n' | ask floor)" 'entries 0;took 0 path 0,2 0,1 0,0 1,0 2,0 3,0 4,0;clock 1 picked 0 dropped 0'
+systemctl kill -s KILL warehouse@main
+sleep 3
+is 'killed' "$(shown ActiveState NRestarts)" 'active 1'
+is 'it resumes' "$(printf 'tick\n' | ask floor)" 'entries 2;clock 2 picked 0 dropped 0'
+SECONDS=0
+systemctl stop warehouse@main
+is 'stopped' "$((SECONDS < 5)) $(shown ActiveState Result ExecMainStatus)" '1 inactive success 0'
+is 'the log has no end' "$(tail -n 1 /var/lib/warehouse/main/run.log)" '0 tick = clock 2 picked 0 dropped 0'
+cp points points.right; echo 'station c 9 9' >> points
+systemctl start warehouse@main; sleep 3
+is 'refused input' "$(shown ActiveState ExecMainStatus NRestarts)" 'failed 1 0'
+cp points.right points; cp options options.right; echo '--none' >> options; systemctl reset-failed warehouse@main
+systemctl start warehouse@main; sleep 3
+is 'refused words' "$(shown ActiveState ExecMainStatus NRestarts)" 'failed 2 0'
+grep -v ':stop' options.right > options; systemctl reset-failed warehouse@main
+systemctl start warehouse@main; sleep 1; systemctl stop warehouse@main
+is 'no client to stop it' "$(shown ActiveState Result ExecMainStatus)" 'inactive success 15'
+cp options.right options; systemctl reset-failed warehouse@main
+(cd /var/lib/warehouse/main && exec su -s /bin/sh warehouse -c 'exec flock -x run.log sleep 3') &
+sleep 1; systemctl start warehouse@main; sleep 1
+is 'another has the log' "$(shown ExecMainStatus)" 3
+sleep 5
+is 'it tries again' "$(shown ActiveState)" active
+is 'and closes' "$(printf 'close\n' | ask end); $(sleep 1; shown ActiveState Result NRestarts | cut -d ' ' -f 1,2); $(tail -n 1 /var/lib/warehouse/main/run.log)" 'entries 0;closed; inactive success; end 5'
+'''
+
+
+def booted() -> bool:
+    """Whether all is right; it prints each line."""
+    top = f'{SCRATCH.name}/booted'
+    subprocess.run(['mmdebstrap', '--quiet', '--variant=minbase', '--include=systemd-sysv,dbus,python3,adduser', 'bookworm', top], check=True)
+    shutil.copy(package()[0], f'{top}/warehouse.deb')
+    subprocess.run(['chroot', top, 'dpkg', '-i', '/warehouse.deb'], check=True, stdout=subprocess.DEVNULL)
+    os.makedirs(f'{top}/etc/warehouse/main')
+    for path, text in (('map', MAP), ('points', POINTS), ('options', read(f'{DEPLOY}/options'))):
+        with open(f'{top}/etc/warehouse/main/{path}', 'w') as it:
+            it.write(text)
+    shutil.copy(f'{DEPLOY}/tmpfiles.conf', f'{top}/etc/tmpfiles.d/warehouse.conf')
+    with open(f'{top}/judge', 'w') as it:
+        it.write(BOOTED)
+    machine = subprocess.Popen(['systemd-nspawn', '--quiet', '--register=no', '--keep-unit', '--private-network', '-D', top, '-b'], stdin=subprocess.DEVNULL,
+                               stdout=subprocess.DEVNULL, stderr=subprocess.DEVNULL)
+    try:
+        inside, until = [], time.monotonic() + 60
+        while not inside or not os.path.exists(f'/proc/{inside[0]}/root/run/warehouse/main/stop/in'):
+            assert time.monotonic() < until, 'it does not boot'
+            inside = run('pgrep', '-P', str(machine.pid)).stdout.split()
+            time.sleep(1)
+        said = run('nsenter', '-t', inside[0], '-m', '-u', '-i', '-n', '-p', '--', 'bash', '/judge')
+    finally:
+        machine.terminate()
+        machine.wait()
+    print(said.stdout + said.stderr, end='')
+    return said.stdout.count('right: ') == len(said.stdout.splitlines()) == BOOTED.count('\nis ')
+
+
 if __name__ == '__main__':
+    if sys.argv[1:] == ['--booted']:
+        sys.exit(not booted())
     counting.main(globals(), [it for it in globals() if it.startswith('test_')], SCRATCH)

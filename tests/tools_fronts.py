@@ -192,6 +192,39 @@ def test_play() -> None:
          [9, 1, 2, -1, 4])
 
 
+TOLD = '''0 took 2 path 1,2 1,1 2,1 3,1 3,2
+1 clock 10 picked 0 dropped 0
+1 visited 1 0 0
+1 go 0 1 2,1
+2 clock 11 picked 0 dropped 0
+3.5 arrived 0 1
+3.5 go 0 2 3,1
+3.5 go 1 1 1,1
+4 arrived 1 1
+4 refused V1 0 1
+4 arrived 0 2
+4.5 go 1 2 2,1
+5 clock 12 picked 0 dropped 1
+'''
+
+
+def test_vehicles_of_a_run_from_a_state() -> None:
+    """Steps are told from the state's clock, 9, on. Vehicle 1 is granted 1,1 once vehicle 0 has left it."""
+    words = [DELIVERIES, file('log', FRONT + ENTRIES), '--vehicles', file('told', TOLD)]
+    out, said, status = tool('play.py', *words, '--check')
+    ends = ['vehicles 1,1 1,2 behind 0 0', 'vehicles 1,1>2,1 1,2 behind 1 1', 'vehicles 3,1 1,1>2,1 behind 0 1', 'vehicles 3,1 1,1>2,1 behind 1 2']
+    same([row.partition(' vehicles ')[2] for row in out.splitlines()[:4]], [end.removeprefix('vehicles ') for end in ends])
+    same((out.splitlines()[4:], said, status), (['counts agree in 8 ticks', 'no two vehicles meet in 5 seconds: 4 steps, 1 visits, at most 2 steps behind'], '', 0))
+    data = json.loads(tool('play.py', *words)[0].split('id="run">')[1].split('</script>')[0])
+    vehicles = data['vehicles']
+    same((data['start'], data['clock'], data['front']), (0, 17, {'log': 2, 'clock': 9, 'kind': 'stopped', 'entries': 15, 'done': [0]}))
+    same((vehicles['base'], vehicles['ticks'], vehicles['go'], vehicles['at'], vehicles['held']),
+         (9, [100, 200, 500], [[[100, 10], [350, 11]], [[350, 10], [450, 11]]], [[[350, 10], [400, 11]], [[400, 10]]], [[400, 500, 0]]))
+    tree.fromstring(tool('play.py', *words, '--svg', '11')[0])
+    has(tool('play.py', *words[:3], file('told', TOLD.replace('1 go 0 1 2,1', '1 go 0 10 2,1')))[1], 'line 4: agent 0 is told step 19 behind 9, at clock 10')
+    has(tool('play.py', *words[:3], file('told', '0 took 2 path 1,2\n'))[1], 'no line `SECONDS clock 10 ..` is in it')
+
+
 def test_the_program_is_asked_by_the_rules_of_the_state() -> None:
     program = file('judge', '#!/bin/sh\ncat > /dev/null\necho "$@"\n')
     os.chmod(program, 0o755)

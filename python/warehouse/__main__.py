@@ -21,6 +21,13 @@ COMMANDS = {name: '.' + package + name.replace('-', '_') for package, names in P
     'vda5050': '.vda5050.adapter', 'vda5050-vehicle': '.vda5050.simulated', 'vda5050-orders': '.vda5050.feed'}
 
 
+SCRIPT = 'warehouse-py'    # the name of the installed package's command
+
+
+def is_script() -> bool:
+    return os.path.basename(sys.argv[0]) == SCRIPT
+
+
 def module(name: str) -> ModuleType:
     return importlib.import_module(COMMANDS[name], __package__)
 
@@ -28,7 +35,7 @@ def module(name: str) -> ModuleType:
 def usage() -> str:
     """Each subcommand with the beginning of its page."""
     rows = [f'    {name:16}{re.split("[.:,]", module(name).__doc__ or "", maxsplit=1)[0]}' for name in COMMANDS]
-    return '\n'.join(['usage: python3 -m warehouse SUBCOMMAND ..', '', *rows, '', 'SUBCOMMAND --help has more.', ''])
+    return '\n'.join([f'usage: {SCRIPT if is_script() else "python3 -m warehouse"} SUBCOMMAND ..', '', *rows, '', 'SUBCOMMAND --help has more.', ''])
 
 
 def parser_of(name: str, prog: str) -> argparse.ArgumentParser:
@@ -48,7 +55,7 @@ def main(words: list[str], prog: str | None = None) -> int:
     if words[0] not in COMMANDS:
         sys.stderr.write(f'warehouse: there is no subcommand {words[0]}\n{usage()}')
         return 2
-    prog = prog or f'warehouse {words[0]}'
+    prog = prog or f'{SCRIPT if is_script() else "warehouse"} {words[0]}'
     command = module(words[0])
     if words[2:] and words[1] in getattr(command, 'PROGRAM_BEHIND', {}):
         return int(command.PROGRAM_BEHIND[words[1]](words[2:]))

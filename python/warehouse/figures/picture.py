@@ -1,6 +1,8 @@
 """Runs as SVG: a still of one clock, or a picture that moves."""
 from __future__ import annotations
 
+from typing import Sequence
+
 from ..texts import BLOCKED, GONE, Cell, Execution, Fault, Instance, Run
 
 CELL = 32
@@ -37,7 +39,7 @@ def mark(phase: str, x: float, y: float, inner: str = '') -> str:
     return f'<path class="{phase}" d="{shape}"{">" + inner + "</path>" if inner else "/>"}'
 
 
-def frame(instance: Instance, body: list[str], below: list[str]) -> str:
+def frame(instance: Instance, body: list[str], below: list[str], phases: Sequence[str] = PHASES) -> str:
     width, height = max(instance.width * CELL, 330), instance.height * CELL + BAND
     shown = 2 if width < 400 else 1    # a small floor is shown larger
     aside = (width - instance.width * CELL) / 2
@@ -60,7 +62,7 @@ def frame(instance: Instance, body: list[str], below: list[str]) -> str:
         points.append(f'<rect class="p" x="{x + 2}" y="{y + 2}" width="{CELL - 4}" height="{CELL - 4}"{dash}/>'
                       f'<text class="s" x="{x + 4}" y="{y + 11}">{point.name}</text>')
     legend = []
-    for i, phase in enumerate(PHASES):
+    for i, phase in enumerate(phases):
         x = 88 + 62 * i
         legend.append(f'<g transform="translate({x},{instance.height * CELL + 17}) scale(.4)">{mark(phase, 0, 0)}</g>'
                       f'<text class="t" x="{x + 9}" y="{instance.height * CELL + 21}" style="font-size:10px">{phase}</text>')

@@ -24,7 +24,7 @@ from typing import Callable
 
 from .instance import MOST_TASKS, Cell, Point
 from .lines import Fault, number_of
-from .run import OTHER_PAIR, Path, Run, Task, along
+from .run import OTHER_PAIR, Front, Path, Run, Task, along
 
 MOST_CALLER = 63
 SUM = re.compile(r'[0-9a-f]{64}')
@@ -39,7 +39,7 @@ class FrontReader:
     agent's path of its words."""
 
     def __init__(self, run: Run, fault: Callable[[str], Fault], cells_of: Callable[[int, list[str]], list[Cell]]):
-        self.run, self.fault, self.cells_of = run, fault, cells_of
+        self.run, self.fault, self.cells_of, self.front = run, fault, cells_of, Front()
         self.due: tuple[str, ...] = ('after',)    # the words with which the next line may begin
         self.agents = self.tasks = 0              # how many there are to be
         self.paths: list[list[Cell]] = []
@@ -58,8 +58,13 @@ class FrontReader:
     # Each of these takes the words of a line behind its first, and says whether they are of the format.
 
     def on_after(self, words: list[str]) -> bool:
-        self.due = ('rules', 'state')
-        return words == ['0'] or len(words) == 3 and all(word.isdecimal() for word in words[:2]) and bool(SUM.fullmatch(words[2]))
+        self.due, self.run.front = ('rules', 'state'), self.front
+        if words == ['0']:
+            return True
+        if len(words) != 3 or not all(word.isdecimal() for word in words[:2]) or not SUM.fullmatch(words[2]):
+            return False
+        self.front.after, self.front.size, self.front.sum = int(words[0]), int(words[1]), words[2]
+        return True
 
     def on_rules(self, words: list[str]) -> bool:
         self.due = ('state',)
@@ -73,7 +78,7 @@ class FrontReader:
         if clock is None or words[1] not in ('open', 'closed') or words[2] not in ('whole', 'stopped', 'edited'):
             return False
         self.due, run = ('entries',), self.run
-        run.start = run.clock = clock
+        run.start, run.clock, self.front.kind = clock, clock, words[2]
         run.closed, run.homes = words[1] == 'closed', bool(run.homes)
         return True
 

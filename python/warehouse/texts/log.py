@@ -99,6 +99,10 @@ class Reader:
         if self.front.is_done:
             self.has_begun = True
             self.grown += [number for number, task in enumerate(self.run.tasks) if len(task.visits) > task.before]
+            self.note(0, 'began', self.run.earlier)
+            for number, task in enumerate(self.run.tasks):
+                if task.held and not task.done_before:
+                    self.note(0, 'kept', number, task.before)
 
     def start(self, words: list[str]) -> None:
         run = self.run

@@ -74,6 +74,15 @@ class Path:
 
 
 @dataclass
+class Front:
+    """The state with which a log begins, as its first lines name it."""
+    after: int = 0          # the number of the log before in its chain; 0: there is none
+    size: int = 0           # how many bytes of that log count,
+    sum: str = ''           # and their SHA-256
+    kind: str = 'whole'     # or stopped, edited
+
+
+@dataclass
 class Run:
     """What a log tells, with the arrivals redone; clocks are those of the log."""
     instance: Instance
@@ -88,6 +97,7 @@ class Run:
     version: int = 2
     age: int | None = None    # the rule of age, where the log tells one
     earlier: int = 0          # entries of the logs before this one, from which its places count on
+    front: Front | None = None
     closed: bool = False
     cut: bool = False    # a piece of a line follows, or behind `close` the last line lacks
     homes: bool | None = None    # whether paths go on home; None where no path of a task tells

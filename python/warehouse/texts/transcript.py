@@ -5,7 +5,8 @@ a line makes `drive --late SEED --transcript FILE`, or `ts -s %.s` behind the pr
 clock or vehicles are skipped, and what follows a line `%%` is not read.
 
 A vehicle occupies the cells from the step where it has arrived to the last that it was told; where it is told into a cell
-that another occupies, the two *meet*. Whatever else does not fit the log is a `Fault` with its line.
+that another occupies, the two *meet*. Of a log that begins with a state the program counts steps from the state's clock; here they are clocks
+of the plan. Whatever else does not fit the log is a `Fault` with its line.
 """
 from __future__ import annotations
 
@@ -43,10 +44,10 @@ class State:
 
 @dataclass
 class Execution:
-    """What a transcript tells: seconds, and of each vehicle its steps in their order."""
+    """What a transcript tells: seconds, and of each vehicle its steps in their order, as clocks of the plan."""
     run: Run
     end: float = 0.0
-    ticks: list[float] = field(default_factory=list)                        # when the clock came to 1, 2, ..
+    ticks: list[float] = field(default_factory=list)                        # when the clock came to 1, 2, .. from the log's first
     told: list[list[tuple[float, int]]] = field(default_factory=list)       # each step that leads away, as it is told
     came: list[list[tuple[float, int]]] = field(default_factory=list)       # each arrival that was not known before
     visits: list[list[tuple[float, int]]] = field(default_factory=list)     # of each task, with the agent
@@ -57,25 +58,26 @@ class Execution:
 
     @property
     def clock(self) -> int:
-        return len(self.ticks)
+        return self.run.start + len(self.ticks)
 
     def second(self, clock: int) -> float:
         """The last moment of a clock: before the next tick, or the transcript's end."""
-        return self.ticks[clock] if clock < len(self.ticks) else self.end
+        return self.ticks[clock - self.run.start] if clock < self.clock else self.end
 
     def state(self, agent: int, clock: int) -> State:
         """As the vehicle is when that clock ends."""
         arrived, told = self.came[agent], self.told[agent]
-        if clock < len(self.marks):
-            arrived, told = arrived[:self.marks[clock][0][agent]], told[:self.marks[clock][1][agent]]
-        came = arrived[-1][1] if arrived else 0
+        if clock < self.clock:
+            most, told_most = self.marks[clock - self.run.start]
+            arrived, told = arrived[:most[agent]], told[:told_most[agent]]
+        came = arrived[-1][1] if arrived else self.run.start
         step = passed(self.run, agent, came, clock)
         ahead = [further for _, further in told[bisect.bisect_right(told, came, key=lambda pair: pair[1]):]]
         return State(clock - step, ahead[-1] if ahead else step, [self.run.cell_at(agent, further) for further in [came, *ahead]])
 
     def tasks(self) -> list[Task]:
         """The log's tasks, with the clocks at which vehicles made their visits."""
-        return [dataclasses.replace(task, visits=[bisect.bisect_right(self.ticks, second) for second, _ in visits])
+        return [dataclasses.replace(task, visits=[self.run.start + bisect.bisect_right(self.ticks, second) for second, _ in visits])
                 for task, visits in zip(self.run.tasks, self.visits)]
 
 
@@ -97,15 +99,15 @@ def passed(run: Run, agent: int, step: int, clock: int) -> int:
 
 
 def read_transcript(run: Run, name: str, data: bytes) -> Execution:
-    if run.start != 0:
-        raise Fault(f'the log begins at clock {run.start}, and a run of `replay` at 0', name)
+    if run.start != 0 and not run.front:
+        raise Fault(f'the log begins at clock {run.start}, and with no state', name)
     reader = Reader(run, name)
     for line in lines_of(data):
         reader.line += 1
         if not reader.read(line):
             break
-    if reader.found.clock == 0:
-        raise Fault('no line `SECONDS clock 1 ..` is in it', name)
+    if not reader.found.ticks:
+        raise Fault(f'no line `SECONDS clock {run.start + 1} ..` is in it', name)
     return reader.found
 
 
@@ -114,9 +116,9 @@ class Reader:
         self.run, self.name, self.line = run, name, 0
         agents = range(len(run.paths))
         self.found = Execution(run, told=[[] for _ in agents], came=[[] for _ in agents], visits=[[] for _ in run.tasks])
-        self.reached, self.told = [0 for _ in agents], [0 for _ in agents]
+        self.reached, self.told = [run.start for _ in agents], [run.start for _ in agents]
         self.by_cell: dict[Cell, list[int]] = {}
-        self.cells = [[run.cell_at(agent, 0)] for agent in agents]    # that each occupies, in order
+        self.cells = [[run.cell_at(agent, run.start)] for agent in agents]    # that each occupies, in order
         for agent in agents:
             self.by_cell.setdefault(self.cells[agent][0], []).append(agent)
 
@@ -145,6 +147,8 @@ class Reader:
             raise self.fault(f'`{text[:40]}` is no line of `replay --vehicles`', False)
         if kind != 'clock' and values[0] >= len(self.told):
             raise self.fault(f'there is no agent {values[0]}')
+        if kind in ('go', 'arrived'):
+            values[1] += self.run.start
         getattr(self, kind)(*values)
 
     def settle(self, agent: int) -> None:

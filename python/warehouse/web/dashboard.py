@@ -1,12 +1,14 @@
 """Serves a page of a running floor: it follows the log as it grows, and the core is not asked.
 
     ./warehouse replay --vehicles --ahead 3 --log run.log ..
-    dashboard INSTANCE run.log --ahead 3        http://127.0.0.1:8080/
+    dashboard INSTANCE run.log --ahead 3              http://127.0.0.1:8080/
+    dashboard INSTANCE run.log next.log --ahead 3     and then the log that continues it
 
 INSTANCE has the sections map and points, as for `play`; LOG is the file of `--log`, which may come later. With LOG.at beside it
 (`--vehicles`) the page shows vehicles: which cells each occupies, where its plan is, how far it is behind. --ahead and --behind are
 those of the service. Times are those at which this server saw the files grow. Where `vda5050` has ended a run for a lost vehicle (LOG.keys
-says so), the page continues with the next one, LOG.2.
+says so), the page continues with the next one, LOG.2. Each further LOG begins with the state that the one before it had (`warehouse state`):
+the page continues with it once that is there, from where agents, loads and orders are in it.
 
     /           the player, at the last moment; scroll back with the slider or the arrows, the key end follows again
     /events     Server-Sent Events: `run`, the last ten minutes, then `more`, what is new of it
@@ -14,8 +16,8 @@ says so), the page continues with the next one, LOG.2.
     /health     {"alarms": [..]}: status 200 without an alarm, else 503
 
 An alarm is: a vehicle for which the clock has waited for --patience seconds, or that is out of use; two vehicles granted one cell; a
-request without a path (E6) in the last minute; a standstill; a log that is not there or cannot be read. A log that is cut or replaced
-is read anew.
+request without a path (E6) in the last minute; a standstill; a log that is not there, cannot be read, or does not continue the one before.
+A log that is cut or replaced is read anew.
 
 It listens on 127.0.0.1 alone unless --host says otherwise: it has no passwords, so put a proxy with TLS and passwords before it. It
 needs no network, and ends by Ctrl-C or signal 15.
@@ -31,7 +33,7 @@ import time
 import traceback
 from collections import deque
 from http.server import BaseHTTPRequestHandler, ThreadingHTTPServer
-from typing import Any
+from typing import Any, Sequence
 
 from ..texts import Fault, read_file, read_instance
 from . import asset, page
@@ -185,9 +187,9 @@ class Server(ThreadingHTTPServer):
 
 
 def serve(instance: str, log: str, host: str, port: int, ahead: int = 1, behind: int = 8, minutes: int = 5,
-          patience: float = 3.0) -> Server:
+          patience: float = 3.0, later: Sequence[str] = ()) -> Server:
     """A server that listens, and follows the files from now on. Raises Fault where the instance cannot be used, OSError."""
-    runs = Runs(read_instance(instance, read_file(instance)), os.path.basename(instance), log, ahead)
+    runs = Runs(read_instance(instance, read_file(instance)), os.path.basename(instance), log, ahead, later)
     feed = Feed(runs, Status(runs.follower(), behind, minutes, patience))
     server = Server((host, port), type('FloorHandler', (Handler,), {'feed': feed}))
     server.feed = feed
@@ -199,6 +201,7 @@ def add_options(parser: argparse.ArgumentParser) -> None:
     add = parser.add_argument
     add('instance', metavar='INSTANCE')
     add('log', metavar='LOG')
+    add('later', metavar='LOG', nargs='*', help='logs that continue it, one after the other; they may come later')
     add('--host', default='127.0.0.1', metavar='ADDRESS', help='where it listens (%(default)s)')
     add('--port', type=int, default=8080, metavar='N', help='0: any that is free (%(default)s)')
     add('--ahead', type=int, default=1, metavar='N', help='steps ahead that the service grants (%(default)s)')
@@ -210,7 +213,8 @@ def add_options(parser: argparse.ArgumentParser) -> None:
 def run(options: argparse.Namespace) -> int:
     if min(options.ahead, options.behind, options.minutes) < 1 or not 0 <= options.port <= 65535:
         raise Fault('--ahead, --behind and --minutes are 1 or more, --port is at most 65535')
-    server = serve(options.instance, options.log, options.host, options.port, options.ahead, options.behind, options.minutes, options.patience)
+    server = serve(options.instance, options.log, options.host, options.port, options.ahead, options.behind, options.minutes, options.patience,
+                   options.later)
     host, port = server.server_address[:2]
     print(f'http://{host!s}:{port}/', flush=True)
     signal.signal(signal.SIGTERM, lambda *_: threading.Thread(target=server.shutdown).start())

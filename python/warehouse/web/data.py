@@ -2,7 +2,7 @@
 from __future__ import annotations
 
 import bisect
-from typing import Any
+from typing import Any, Iterable
 
 from ..texts import PASSABLE, Cell, Execution, Instance, Path, Run, Task
 
@@ -47,25 +47,35 @@ def floor_of(instance: Instance, title: str) -> dict[str, Any]:
             'points': [[point.kind[0], point.name, *point.cell] for point in instance.points]}
 
 
+def front_of(run: Run, numbers: Iterable[int]) -> dict[str, Any] | None:
+    """The state with which the log begins: the log's number in its chain, the state's clock and kind, entries before, and those of these
+    tasks that were done before. None where it begins with none."""
+    if run.front is None:
+        return None
+    return {'log': run.front.after + 1, 'clock': run.start, 'kind': run.front.kind, 'entries': run.earlier,
+            'done': [number for number in numbers if run.tasks[number].done_before]}
+
+
 def data_of_vehicles(vehicles: Execution | None) -> dict[str, Any] | None:
-    """Seconds are in hundredths."""
+    """Seconds are in hundredths; steps are clocks, and `base` is the first one."""
     if vehicles is None:
         return None
     pairs = [[[[round(100 * second), step] for second, step in steps] for steps in lists] for lists in (vehicles.told, vehicles.came)]
     waits: list[list[int]] = []    # from a refused tick to the next that was made
     for second, agent in vehicles.held:
-        until = bisect.bisect_right(vehicles.ticks, second)
+        until = vehicles.run.start + bisect.bisect_right(vehicles.ticks, second)
         end = round(100 * vehicles.second(until))
         if not waits or waits[-1][1] != end:
             waits.append([round(100 * second), end, agent])
-    return {'end': round(100 * vehicles.end), 'ticks': [round(100 * second) for second in vehicles.ticks], 'go': pairs[0],
+    return {'base': vehicles.run.start, 'end': round(100 * vehicles.end), 'ticks': [round(100 * second) for second in vehicles.ticks], 'go': pairs[0],
             'at': pairs[1], 'visits': [[round(100 * second) for second, _ in visits] for visits in vehicles.visits],
             'held': waits, 'most': vehicles.most_behind, 'meetings': [str(meeting) for meeting in vehicles.meetings[:20]]}
 
 
 def data_of(run: Run, title: str, verified: str | None, vehicles: Execution | None) -> dict[str, Any]:
     return floor_of(run.instance, title) | {
-        'start': run.start, 'clock': run.clock, 'cut': run.cut, 'entries': run.entries, 'verified': verified,
+        'start': 0 if vehicles else run.start, 'clock': run.clock, 'cut': run.cut, 'entries': run.entries, 'verified': verified,
+        'front': front_of(run, range(len(run.tasks))),
         'differ': differences(run)[:20], 'answers': dict(run.answers), 'ways': [[way_of(path) for path in paths] for paths in run.paths],
         'tasks': [task_of(task) for task in run.tasks], 'events': run.events, 'vehicles': data_of_vehicles(vehicles),
     }

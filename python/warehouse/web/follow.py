@@ -11,7 +11,7 @@ from collections import deque
 from typing import Any
 
 from ..texts import Fault, Instance, Reader, Run, read_arrivals, standing
-from .data import floor_of, task_of, way_of
+from .data import floor_of, front_of, task_of, way_of
 from .reports import Vehicles
 from .tail import Tail
 
@@ -26,6 +26,7 @@ class Follower:
         self.instance, self.title, self.name, self.ahead = instance, title, log, ahead
         self.began, self.number = time.monotonic(), 0
         self.out: list[int] = []    # agents that are out of use in this run
+        self.wrong = ''             # why this log is not the one that should follow, or ''
         self.forget()
 
     def forget(self) -> None:
@@ -124,11 +125,16 @@ class Follower:
         self.missing.clear()
         if self.reports.is_there:
             self.vehicles = Vehicles(self.run, self.ahead, self.places(), self.now())
-            for number, task in enumerate(self.run.tasks):
-                if task.agent is not None:
-                    self.vehicles.plan(task.agent, number)
+            for number in sorted(range(len(self.run.tasks)), key=self.turn):
+                if (agent := self.run.tasks[number].agent) is not None:
+                    self.vehicles.plan(agent, number)
             self.done = sum(self.vehicles.is_done(i) for i in self.kept)
         self.trim(True)
+
+    def turn(self, number: int) -> tuple[bool, list[int]]:
+        """What orders the tasks of an agent: by their last visits, behind them the one with stops to which no path leads yet."""
+        task = self.run.tasks[number]
+        return len(task.visits) < len(task.stops), task.visits[-1:]
 
     def places(self) -> list[int]:
         """Of each vehicle the clock at which the plan is where it has arrived: steps are counted from the log's first clock."""
@@ -190,6 +196,10 @@ class Follower:
         self.events = [event for event in self.events if event[0] >= first]
         run.counts.clear()
 
+    def is_done(self, number: int) -> bool:
+        task = self.run.tasks[number]
+        return self.vehicles.is_done(number) if self.vehicles else len(task.visits) == len(task.stops) and task.visits[-1] <= self.run.clock
+
     def is_over(self, number: int, first: int) -> bool:
         task = self.run.tasks[number]
         return len(task.visits) == len(task.stops) and task.visits[-1] < first and (not self.vehicles or self.vehicles.is_done(number))
@@ -200,6 +210,6 @@ class Follower:
         tasks = [number for number in self.kept if not self.is_over(number, first)]
         return floor_of(run.instance, self.title) | {
             'live': True, 'start': 0 if self.vehicles else first, 'clock': run.clock, 'cut': False, 'entries': run.entries, 'verified': None,
-            'differ': [], 'answers': dict(run.answers), 'ways': [[way_of(path) for path in paths] for paths in run.paths],
+            'front': front_of(run, tasks), 'left_out': self.done - sum(map(self.is_done, tasks)), 'differ': [], 'answers': dict(run.answers), 'ways': [[way_of(path) for path in paths] for paths in run.paths],
             'tasks': [[*task_of(run.tasks[number]), number] for number in tasks], 'events': [event for event in self.events if event[0] >= first],
             'vehicles': self.vehicles.begun(tasks) if self.vehicles else None}

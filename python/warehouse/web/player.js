@@ -5,7 +5,6 @@
 const NEVER = 2 ** 31 - 1, PHASES = ['open', 'assigned', 'carried', 'done'], dark = matchMedia('(prefers-color-scheme: dark)');
 const css = name => getComputedStyle(document.documentElement).getPropertyValue('--' + name).trim();
 const colour = a => `hsl(${(a * 137.508) % 360},60%,${dark.matches ? 45 : 38}%)`;
-const escaped = text => String(text).replace(/[&<>"']/g, c => `&#${c.charCodeAt(0)};`);
 function upTo(list, t, key) { let lo = 0, hi = list.length; while (lo < hi) { const m = (lo + hi) >> 1; key(list[m]) <= t ? lo = m + 1 : hi = m; } return lo; }
 function player(root) {
   const $ = name => root.querySelector('.' + name);
@@ -13,7 +12,7 @@ function player(root) {
   const self = {root, load, add, show, draw, theme, size, fit, zoom, strip, pick, toggle, heatMap, saying, onpick: () => {}, get T() { return T; }, get N() { return N; }, get base() { return BASE; }, get run() { return R; },
     get picked() { return picked; }, get shownWays() { return showWays; }, get shownHeat() { return showHeat; }};
   // With vehicles a moment is a second of their transcript, else a clock, counted from the run's first one.
-  let R, V, BASE, N = 0, T = 0, C = {}, X = [], byNumber = new Map(), own = null, E = [], kept = [], counts = [], busiest = 1, pointAt = new Map(), barred;
+  let R, loads = 0, V, BASE, N = 0, T = 0, C = {}, X = [], byNumber = new Map(), own = null, E = [], kept = [], counts = [], busiest = 1, pointAt = new Map(), barred;
   let S = 10, OX = 0, OY = 0, W = 0, H = 0, now = 0, picked = -1, showWays = true, showHeat = false, fitted = true, charted = -1;
   function colours() { for (const k of ['bg', 'fg', 'dim', 'line', 'floor', 'wall', 'point', 'wait', ...PHASES]) C[k] = css(k); }
   // ---- where everything is
@@ -21,7 +20,8 @@ function player(root) {
   const clockAt = m => V ? (V.base || 0) + upTo(V.ticks, m * 100, v => v) : Math.floor(m);
   function taskOf([client, stops, sub, agent, taken, planned, number], k) {
     const visits = V ? V.visits[k].map(v => v / 100) : planned.map(moment);
-    return {i: number ?? k, client, stops, agent, visits, sub: moment(sub), taken: taken < 0 ? NEVER : moment(taken),
+    // with vehicles no second is known of what was submitted before the page's first one
+    return {i: number ?? k, client, stops, agent, visits, sub: moment(sub), timed: !V || !V.base || sub > V.base, taken: taken < 0 ? NEVER : moment(taken),
       first: visits.length ? visits[0] : NEVER, done: visits.length == stops.length ? visits[visits.length - 1] : NEVER};
   }
   function way(a, t) {
@@ -49,7 +49,7 @@ function player(root) {
   let seenAt = -1, seen = [];
   function vehicle(a, m) { if (m != seenAt) { seenAt = m; seen = []; } return seen[a] ??= vehicleAt(a, m); }
   function vehicleAt(a, m) {
-    const at = V.at[a], go = V.go[a], t = m * 100, clock = clockAt(m), i = upTo(at, t, e => e[0]), came = i ? at[i - 1][1] : 0;
+    const at = V.at[a], go = V.go[a], t = m * 100, clock = clockAt(m), i = upTo(at, t, e => e[0]), came = i ? at[i - 1][1] : V.base || 0;
     const step = passed(a, came, clock), first = upTo(go, came, e => e[1]), told = upTo(go, t, e => e[0]), cells = [cell(a, came)];
     for (let g = first; g < told; g++) cells.push(cell(a, go[g][1]));
     let [x, y] = cells[0];
@@ -223,30 +223,42 @@ function player(root) {
   // Of events the clocks are moments; with vehicles the visits are theirs.
   const eventOf = e => [moment(e[0]), ...e.slice(1)], visitsOf = x => x.visits.map((m, k) => [m, 0, 'visit', x.i, k]);
   function words(e) {
-    const [when, caller, kind, a, b, c] = e, x = kind == 'submit' || kind == 'visit' ? byNumber.get(a) : null;
+    const [when, caller, kind, a, b, c] = e, x = kind == 'submit' || kind == 'visit' || kind == 'kept' ? byNumber.get(a) : null;
     if (kind == 'submit') return x ? `${x.client} submits task ${a}: ${x.stops.map(name).join(' → ')}` : `task ${a} is submitted`;
     if (kind == 'took') return `agent ${a} takes task ${b}, ${c} steps`;
     if (kind == 'parked') return `agent ${a} goes to park at ${name(b)}, ${c} steps`;
+    if (kind == 'began') return `the run continues from a state, behind ${a} entries`;
+    if (kind == 'kept') return x ? `agent ${x.agent} has task ${a} from before, ${b} of ${x.stops.length} stops made` : `task ${a} was taken before`;
     if (kind == 'replaced') return `agent ${a} has another planner, ${b} slots`;
     if (kind == 'closed') return 'the warehouse is closed';
     if (kind == 'refused') return `${a}: refused ${b}`;
     if (!x) return `a visit of task ${a}`;
     const who = `${V ? 'vehicle' : 'agent'} ${x.agent}`, where = name(x.stops[b]);
-    if (b == x.stops.length - 1) return `${who} delivers task ${a} at ${where}, ${Math.round(when - x.sub)} after submission`;
+    if (b == x.stops.length - 1) return `${who} delivers task ${a} at ${where}${x.timed ? `, ${Math.round(when - x.sub)} after submission` : ''}`;
     return b == 0 ? `${who} picks up task ${a} at ${where}` : `${who} is at stop ${b + 1} of task ${a}, ${where}`;
   }
   let listed = '';
   function panel() {
     const t = Math.floor(now), n = upTo(E, V ? now : t, e => e[0]);
     if (V) panelLate();
-    PHASES.forEach((p, i) => { $('n' + i).textContent = counts[i][t]; });
+    PHASES.forEach((p, i) => { $('n' + i).textContent = counts[i][t] + (p == 'done' && R.left_out || 0); });
     const key = t + ' ' + picked; if (key == listed) return; listed = key;
-    const lines = [], mine = e => picked < 0 || (e[2] == 'took' || e[2] == 'parked' || e[2] == 'replaced' ? e[3] == picked
-      : e[2] == 'visit' ? byNumber.get(e[3])?.agent == picked : e[2] == 'refused' && String(e[3]).startsWith(`agent ${picked} `));
-    for (let i = n - 1; i >= 0 && lines.length < 120; i--) if (mine(E[i]))
-      lines.push(`<p${E[i][2] == 'refused' ? ' class=bad' : ''}><i>${Math.floor(E[i][0]) + BASE}</i> ${escaped(words(E[i]))}</p>`);
-    $('events').innerHTML = `<h2>Events up to now${picked < 0 ? '' : `, agent ${picked}`}, latest first (not listed: rested, E5)</h2>` + lines.join('');
+    listEvents(n);
     $('agent').textContent = picked < 0 ? 'select an agent' : about(picked, V ? now : t);
+  }
+  // Events up to now, the latest first. Where time has gone on a little only the new ones are added: all of them anew take longer than the picture.
+  const MOST_EVENTS = 120, element = (kind, words, cls = '') => Object.assign(document.createElement(kind), {textContent: words, className: cls});
+  let eventsOf = '', eventsTo = 0;
+  function eventRow(e) { const p = element('p', '', e[2] == 'refused' ? 'bad' : ''); p.append(element('i', Math.floor(e[0]) + BASE), ' ' + words(e)); return p; }
+  function listEvents(n) {
+    const mine = e => picked < 0 || (e[2] == 'took' || e[2] == 'parked' || e[2] == 'replaced' ? e[3] == picked
+      : e[2] == 'visit' || e[2] == 'kept' ? byNumber.get(e[3])?.agent == picked : e[2] == 'refused' && String(e[3]).startsWith(`agent ${picked} `));
+    const box = $('events'), of = `${loads} ${picked}`, on = of == eventsOf && n >= eventsTo, rows = [];
+    for (let i = n - 1; i >= (on ? eventsTo : 0) && rows.length < MOST_EVENTS; i--) if (mine(E[i])) rows.push(eventRow(E[i]));
+    if (on) box.firstElementChild.after(...rows);
+    else box.replaceChildren(element('h2', `Events up to now${picked < 0 ? '' : `, agent ${picked}`}, latest first (not listed: rested, E5)`), ...rows);
+    while (box.childElementCount > MOST_EVENTS + 1) box.lastElementChild.remove();
+    eventsOf = of; eventsTo = n;
   }
   function panelLate() {
     let late = 0, most = 0, who = -1; const held = V.held.find(h => h[0] <= now * 100 && (h[1] < 0 || now * 100 < h[1]));
@@ -262,7 +274,7 @@ function player(root) {
       : left || v && v.behind ? (w.task < 0 ? w.point < 0 ? 'is on a path' : `goes to park at ${name(w.point)}` : goesHome(w) ? `goes home, task ${w.task} is done` : `ends the way of task ${w.task}, which is done`) : 'rests';
     const late = !V ? '' : (v.cells.length > 1 ? `, granted ${v.cells.slice(1).map(k => k.join(',')).join(' ')}` : '')
       + (v.behind ? `\n${v.behind} steps behind its plan, which is at ${cell(a, v.clock).join(',')}` : '');
-    return `${a} at ${x},${y}: ${doing}${late}\n${left} steps left${V ? ' in its plan' : ''}, tasks done: ${did}`;
+    return `${a} at ${x},${y}: ${doing}${late}\n${left} steps left${V ? ' in its plan' : ''}, tasks done${R.left_out ? ' lately' : ''}: ${did}`;
   }
   // What is under way, stacked, up to the most that ever is; what is done is a line, up to all tasks. Drawn once, and then the moment.
   function paintChart(w, h, all) {
@@ -324,7 +336,7 @@ function player(root) {
   // ---- a run, and what is new of it
   function load(run) {
     const same = R && R.width == run.width && R.height == run.height && N == run.ways.length, first = !R;
-    R = run; V = R.vehicles; BASE = V ? 0 : R.start; N = R.ways.length; kept = Array.from({length: N}, () => []);
+    R = run; loads++; V = R.vehicles; BASE = V ? 0 : R.start; N = R.ways.length; kept = Array.from({length: N}, () => []);
     if (!same) { picked = -1; fitted = true; }
     if (first) showWays = N <= 60;
     readFloor(); stays = []; stood = null; heatAt = 0; R.ways.forEach(list => list.forEach(note)); arrange();
@@ -355,15 +367,17 @@ function player(root) {
     if (R.cut && !R.live) fact('CUT: the log has not its end', 'tag bad');
     fact(`${R.width} × ${R.height}`); fact(`${N} agents`); if (!R.live) figures(fact);
     if (R.nofollow) fact('rule nofollow');
+    if (R.front) fact(`log ${R.front.log} of its run: from clock ${R.front.clock}, behind ${R.front.entries} entries` + (R.front.kind == 'whole' ? '' : `, ${R.front.kind}`));
     fact(`${R.entries} entries: ${['rested', 'E5', 'E6'].map(k => `${k} ${R.answers[k] || 0}`).join(', ')}`);
     $('facts').replaceChildren(...spans);
     $('banner').textContent = (R.differ.length ? 'Counts differ: what is drawn is not what the log says\n' + R.differ.join('\n') : '')
       + (V && V.meetings.length ? 'Vehicles meet\n' + V.meetings.join('\n') : '');
   }
   function figures(fact) {
-    const served = X.filter(x => x.done < NEVER), end = served.reduce((m, x) => Math.max(m, x.done), 0), mean = served.reduce((s, x) => s + x.done - x.sub, 0) / served.length;
-    fact(`${served.length} of ${X.length} tasks done`);
-    if (served.length) { fact(V ? `the last at second ${Math.round(end)}` : `makespan ${end}`); fact(`service time ${mean.toFixed(1)}`); if (end) fact(`${(100 * served.length / end).toFixed(1)} tasks in 100 ${V ? 'seconds' : 'ticks'}`); }
+    const before = new Set(R.front?.done), all = X.filter(x => !before.has(x.i)), served = all.filter(x => x.done < NEVER), timed = served.filter(x => x.timed);
+    const end = served.reduce((m, x) => Math.max(m, x.done), 0), mean = timed.reduce((s, x) => s + x.done - x.sub, 0) / timed.length;
+    fact(`${served.length} of ${all.length} tasks done` + (before.size ? `, ${before.size} before` : ''));
+    if (served.length) { fact(V ? `the last at second ${Math.round(end)}` : `makespan ${end}`); if (timed.length) fact(`service time ${mean.toFixed(1)}`); if (end) fact(`${(100 * served.length / end).toFixed(1)} tasks in 100 ${V ? 'seconds' : 'ticks'}`); }
     if (V) { fact(`the clock waited ${V.held.length == 1 ? 'once' : V.held.length + ' times'}`); fact(`at most ${V.most} steps behind`); }
   }
   const MARKS = [['vehicle', 'vehicle', 'drawn as if it moved evenly between its reports'], ['cell', 'cells that it occupies', 'from where it has arrived to the last that was granted'],

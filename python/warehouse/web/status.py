@@ -52,6 +52,8 @@ class Status:
             found.append(f'the files cannot be read: {floor.fault or floor.unread}')
         elif not floor.log.is_there:
             found.append(f'there is no log {floor.name}')
+        if floor.wrong:
+            found.append(floor.wrong)
         if floor.vehicles:
             found += floor.vehicles.meetings()[:3]
         found += [f'vehicle {agent} is out of use' for agent in floor.out]
@@ -87,7 +89,8 @@ class Status:
         def add(name: str, kind: str, says: str, rows: dict[str, object]) -> None:
             text.extend([f'# HELP warehouse_{name} {says}', f'# TYPE warehouse_{name} {kind}'])
             text.extend(f'warehouse_{name}{labels} {value}' for labels, value in rows.items())
-        add('entries_total', 'counter', 'Entries of the log.', {'': run.entries})
+        add('entries_total', 'counter', 'Entries of the run, with those of the logs before.', {'': run.earlier + run.entries})
+        add('log', 'gauge', 'Number of the log among those of the run.', {'': 1 + run.front.after if run.front else 1})
         add('clock', 'gauge', 'The clock of the plan, in ticks.', {'': run.clock})
         add('tasks', 'gauge', 'Tasks by phase.', {f'{{phase="{name}"}}': count for name, count in self.phases().items()})
         answers = {kind: run.answers[kind] for kind in ('took', 'parked', 'rested', 'E5', 'E6')}
