@@ -1,5 +1,5 @@
 -- what is known of a log that was recovered
-use Rattle.std.proofs.Common.{◌≡◌, ◌⊎◌, ℕ, List, [], ◌∷◌, ◌++◌, map, take, length, zero, suc, refl, sym, ap, ◌∙◌, subst, inl, inr}
+use Rattle.std.proofs.Common.{◌≡◌, ◌⊎◌, ℕ, List, [], ◌∷◌, ◌++◌, map, length, refl, sym, ap, ◌∙◌, subst, inl, inr}
 use Rattle.std.specs.Prelude.{Option, Some, None}
 use Rattle.std.specs.List.{AllByRecursion}
 use Rattle.std.proofs.lemmas.List.{length-map}
@@ -40,12 +40,6 @@ task_of submission = submission.task
 named : (tasks : List Submission) → AllByRecursion SubmissionFits tasks → AreCallers (map caller_of tasks)
 named [] fit = tt
 named (s ∷ tasks) fit = (fit.0.0, named tasks fit.1)
-
-pub first_of_all : {X : Type 0} (P : X → Type 0) (xs : List X) (n : ℕ) → AllByRecursion P xs → AllByRecursion P (take n xs)
-first_of_all P [] zero all = tt
-first_of_all P [] (suc n) all = tt
-first_of_all P (x ∷ xs) zero all = tt
-first_of_all P (x ∷ xs) (suc n) all = (all.0, first_of_all P xs n all.1)
 
 -- what a recovered log tells, in the words of a hand-over
 pub record Known (site : Site) (text : List ℕ) (bytes : ℕ) (book : Seen) (preface : Option Preface) : Type 0 where

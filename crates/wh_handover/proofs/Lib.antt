@@ -3,3 +3,5 @@ mod Entries
 mod Digits
 mod Lines
 mod Facts
+mod Stops
+mod Standings

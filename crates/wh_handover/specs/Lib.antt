@@ -1,2 +1,4 @@
 pub mod Handing
 pub mod Prefaces
+pub mod Stopped
+pub mod Standing

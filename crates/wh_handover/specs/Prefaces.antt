@@ -4,7 +4,9 @@ use Rattle.wh_core.specs.States.{State}
 use Rattle.wh_front.specs.declared.front.Count.{Count}
 use Rattle.wh_resume.specs.Drafts.{Seen}
 use Rattle.wh_resume.specs.declared.recovery.Preface.{Preface}
-use Rattle.wh_handover.specs.Handing.{number_behind}
+use Rattle.wh_front.specs.declared.front.Front.{Front}
+use Rattle.wh_resume.specs.declared.recovery.Resumed.{Resumed}
+use Rattle.wh_handover.specs.Handing.{IsHandover, number_behind}
 
 -- the number of the log in its chain
 abbrev pub number_had : Option Preface → ℕ
@@ -30,6 +32,10 @@ Counts (Some number) before entries count = number ≡ before + count
 abbrev pub CountsNone : Option ℕ → (before entries : ℕ) → Type 0
 CountsNone None before entries = ⊥
 CountsNone (Some number) before entries = (number < before) ⊎ (before + entries < number)
+
+-- the front of the state after these entries of a log, with whose opening the book began
+abbrev pub HandsOver : (text : List ℕ) → Resumed → Option ℕ → Front → Type 0
+HandsOver text resumed after front = (h : IsHandover resumed.book.site text after front) × (h.told.opening ≡ resumed.book.opening)
 
 -- a book that came to this state by its first entries
 abbrev pub cut_at : Seen → ℕ → State → Seen

@@ -1,7 +1,7 @@
 //! The front of a log that goes on from what another log tells.
 #![tactic(auto)]
 
-ghost use Rattle.std.specs.Prelude.{◌≡◌, ◌≤◌, ℕ, List, [], IfOk, IfErr, length, take};
+ghost use Rattle.std.specs.Prelude.{◌≡◌, ◌≤◌, ℕ, List, [], IfOk, IfErr, Option, length, take};
 ghost use Rattle.wh_core.specs.States.{State};
 ghost use Rattle.wh_core.specs.Steps.{Run};
 ghost use Rattle.wh_book.specs.Drafts.{Seen};
@@ -14,7 +14,7 @@ ghost use Rattle.wh_resume.specs.Behind.{rules_of};
 ghost use Rattle.wh_resume.specs.Resuming.{TellsBook};
 ghost use Rattle.wh_handover.specs.declared.front.HandoverFault.TheVariants as fault;
 ghost use Rattle.wh_handover.specs.Handing.{IsHandover, IsWhyNone};
-ghost use Rattle.wh_handover.specs.Prefaces.{callers_had, counts_had, cut_at};
+ghost use Rattle.wh_handover.specs.Prefaces.{HandsOver, callers_had, counts_had, cut_at};
 
 use crate::after::{rules_over, state_after};
 use crate::behind::{before_of, number_of};
@@ -106,7 +106,7 @@ fn front_at(
 }
 
 /// The front of the state after the entries that are asked for, of a log whose text this is and which tells this.
-fn front_of(
+pub(crate) fn front_of(
     alloc: Global,
     text: &[u8],
     resumed: &Resumed,
@@ -114,7 +114,7 @@ fn front_of(
 ) -> Result<Front, HandoverFault>
     requires tells { TellsBook resumed.now.book.site text.now resumed.now resumed.now.preface }
     requires some { 1 ≤ length resumed.now.book.site.layout.agents }
-    ensures ok { IfOk result (IsHandover resumed.now.book.site text.now after) }
+    ensures ok { IfOk result (HandsOver text.now resumed.now after) }
     ensures fault { IfErr result (IsWhyNone resumed.now.book.site text.now after) }
 {
     let history = resumed.book.history();
@@ -133,6 +133,29 @@ fn front_of(
     Ok(front)
 }
 
+/// What the log tells of a run over the setting that this text is, which may have been cut anywhere behind its front.
+///
+/// Errors: `Empty`; `Flawed` and `Bad` as `wh_resume::recover` tells them; `NoMemory`.
+pub fn recovered(alloc: Global, setting: Setting, text: &[u8]) -> Result<Resumed, HandoverFault>
+    requires some { 1 ≤ length setting.layout.agents }
+    ensures tells { IfOk result (λ resumed. TellsBook resumed.book.site text.now resumed resumed.preface) }
+    ensures site { IfOk result (λ resumed. resumed.book.site ≡ setting) }
+    ensures fault { IfErr result (λ fault. (after : Option ℕ) → IsWhyNone setting text.now after fault) }
+{
+    let mut source = text;
+    let found = match recover(alloc, setting, &[], &mut source) {
+        Ok(found) => found,
+        Err(SourceFault::Unread) => return Err(HandoverFault::NoMemory),
+        Err(SourceFault::NoMemory) => return Err(HandoverFault::NoMemory),
+    };
+    match found {
+        Recovery::Resumed(resumed) => Ok(resumed),
+        Recovery::Unopened(_) => Err(HandoverFault::Empty),
+        Recovery::Flawed { line, reason } => Err(HandoverFault::Flawed { line, reason }),
+        Recovery::Bad { line, .. } => Err(HandoverFault::Bad { line }),
+    }
+}
+
 /// The front of a log that goes on from what this text tells, the log of a run that may have been cut anywhere behind its front: the state
 /// after the entry of the number that is asked for, counted from the first opening of the chain, else after the last that stands whole; what
 /// was before, which is that log as far as there; who submitted each task, and how many entries each caller had.
@@ -149,20 +172,11 @@ pub fn front_after(
     ensures ok { IfOk result (IsHandover setting text.now after) }
     ensures fault { IfErr result (IsWhyNone setting text.now after) }
 {
-    let mut source = text;
-    let found = match recover(alloc, setting, &[], &mut source) {
-        Ok(found) => found,
-        Err(SourceFault::Unread) => return Err(HandoverFault::NoMemory),
-        Err(SourceFault::NoMemory) => return Err(HandoverFault::NoMemory),
+    let resumed = match recovered(alloc, setting, text) {
+        Ok(resumed) => resumed,
+        Err(fault) => return Err(fault),
     };
-    match found {
-        Recovery::Resumed(resumed) => {
-            let front = front_of(alloc, text, &resumed, after);
-            drop(resumed);
-            front
-        }
-        Recovery::Unopened(_) => Err(HandoverFault::Empty),
-        Recovery::Flawed { line, reason } => Err(HandoverFault::Flawed { line, reason }),
-        Recovery::Bad { line, .. } => Err(HandoverFault::Bad { line }),
-    }
+    let front = front_of(alloc, text, &resumed, after);
+    drop(resumed);
+    front
 }

@@ -9,7 +9,8 @@ use Rattle.wh_options.specs.Reads.{IsTold}
 use Rattle.wh_options.specs.declared.chosen.Options.{Options}
 use Rattle.wh_options.specs.declared.chosen.Options.TheVariants.{Check, Replay, Verify, Live, Serve, State}
 use Rattle.wh_options.proofs.Names.{Named, gives_named, other_word, says_named}
-use Rattle.wh_options.proofs.Menus.{Mistaken, told_as}
+use Rattle.wh_options.proofs.Lines.{Mistaken}
+use Rattle.wh_options.proofs.Menus.{told_as}
 use Rattle.wh_options.proofs.Once.{all_agree, one_line}
 
 -- what some settings are told of is told of others that give the same
@@ -29,22 +30,28 @@ other_than name one other differs m n = other_word one other differs (sym m ∙ 
 clash_never : (name : Text) (xs : List Setting) (o : Options) → EachGives name xs o → IsClashing name (λ id. value_of id xs) (values_of (codes "client") xs) → ⊥
 clash_never name xs (Check o) gives (inl clash) = other_than name (codes "check") (codes "serve") refl gives.0 clash.0
 clash_never name xs (Check o) gives (inr (inl clash)) = other_than name (codes "check") (codes "replay") refl gives.0 clash.0
-clash_never name xs (Check o) gives (inr (inr clash)) = other_than name (codes "check") (codes "live") refl gives.0 clash.0
+clash_never name xs (Check o) gives (inr (inr (inl clash))) = other_than name (codes "check") (codes "live") refl gives.0 clash.0
+clash_never name xs (Check o) gives (inr (inr (inr clash))) = other_than name (codes "check") (codes "state") refl gives.0 clash.0
 clash_never name xs (Replay o) gives (inl clash) = other_than name (codes "replay") (codes "serve") refl gives.0 clash.0
 clash_never name xs (Replay o) gives (inr (inl clash)) = gives.2 clash.2
-clash_never name xs (Replay o) gives (inr (inr clash)) = other_than name (codes "replay") (codes "live") refl gives.0 clash.0
+clash_never name xs (Replay o) gives (inr (inr (inl clash))) = other_than name (codes "replay") (codes "live") refl gives.0 clash.0
+clash_never name xs (Replay o) gives (inr (inr (inr clash))) = other_than name (codes "replay") (codes "state") refl gives.0 clash.0
 clash_never name xs (Verify o) gives (inl clash) = other_than name (codes "verify") (codes "serve") refl gives.0 clash.0
 clash_never name xs (Verify o) gives (inr (inl clash)) = other_than name (codes "verify") (codes "replay") refl gives.0 clash.0
-clash_never name xs (Verify o) gives (inr (inr clash)) = other_than name (codes "verify") (codes "live") refl gives.0 clash.0
+clash_never name xs (Verify o) gives (inr (inr (inl clash))) = other_than name (codes "verify") (codes "live") refl gives.0 clash.0
+clash_never name xs (Verify o) gives (inr (inr (inr clash))) = other_than name (codes "verify") (codes "state") refl gives.0 clash.0
 clash_never name xs (Live o) gives (inl clash) = other_than name (codes "live") (codes "serve") refl gives.0 clash.0
 clash_never name xs (Live o) gives (inr (inl clash)) = other_than name (codes "live") (codes "replay") refl gives.0 clash.0
-clash_never name xs (Live o) gives (inr (inr clash)) = gives.2 clash.1
+clash_never name xs (Live o) gives (inr (inr (inl clash))) = gives.2 clash.1
+clash_never name xs (Live o) gives (inr (inr (inr clash))) = other_than name (codes "live") (codes "state") refl gives.0 clash.0
 clash_never name xs (Serve o) gives (inl clash) = gives.1.agree clash.2
 clash_never name xs (Serve o) gives (inr (inl clash)) = other_than name (codes "serve") (codes "replay") refl gives.0 clash.0
-clash_never name xs (Serve o) gives (inr (inr clash)) = other_than name (codes "serve") (codes "live") refl gives.0 clash.0
+clash_never name xs (Serve o) gives (inr (inr (inl clash))) = other_than name (codes "serve") (codes "live") refl gives.0 clash.0
+clash_never name xs (Serve o) gives (inr (inr (inr clash))) = other_than name (codes "serve") (codes "state") refl gives.0 clash.0
 clash_never name xs (State o) gives (inl clash) = other_than name (codes "state") (codes "serve") refl gives.0 clash.0
 clash_never name xs (State o) gives (inr (inl clash)) = other_than name (codes "state") (codes "replay") refl gives.0 clash.0
-clash_never name xs (State o) gives (inr (inr clash)) = other_than name (codes "state") (codes "live") refl gives.0 clash.0
+clash_never name xs (State o) gives (inr (inr (inl clash))) = other_than name (codes "state") (codes "live") refl gives.0 clash.0
+clash_never name xs (State o) gives (inr (inr (inr clash))) = gives.2 clash.2
 
 none_never : (name : Text) (xs : List Setting) (o : Options) → EachGives name xs o → IsClientless name (λ id. value_of id xs) (values_of (codes "client") xs) → ⊥
 none_never name xs (Check o) gives none = other_than name (codes "check") (codes "serve") refl gives.0 none.0
@@ -77,14 +84,18 @@ lacks_or_clashes name given clients (inl clash) lacks = lacks_other name given c
 lacks_or_clashes name given clients (inr (inl clash)) (inl lacks) = clash.1 lacks.1
 lacks_or_clashes name given clients (inr (inl clash)) (inr (inl lacks)) = other_than name (codes "replay") (codes "serve") refl clash.0 lacks.0
 lacks_or_clashes name given clients (inr (inl clash)) (inr (inr lacks)) = other_than name (codes "replay") (codes "state") refl clash.0 lacks.0
-lacks_or_clashes name given clients (inr (inr clash)) (inl lacks) = other_than name (codes "live") (codes "replay") refl clash.0 lacks.0
-lacks_or_clashes name given clients (inr (inr clash)) (inr (inl lacks)) = other_than name (codes "live") (codes "serve") refl clash.0 lacks.0
-lacks_or_clashes name given clients (inr (inr clash)) (inr (inr lacks)) = other_than name (codes "live") (codes "state") refl clash.0 lacks.0
+lacks_or_clashes name given clients (inr (inr (inl clash))) (inl lacks) = other_than name (codes "live") (codes "replay") refl clash.0 lacks.0
+lacks_or_clashes name given clients (inr (inr (inl clash))) (inr (inl lacks)) = other_than name (codes "live") (codes "serve") refl clash.0 lacks.0
+lacks_or_clashes name given clients (inr (inr (inl clash))) (inr (inr lacks)) = other_than name (codes "live") (codes "state") refl clash.0 lacks.0
+lacks_or_clashes name given clients (inr (inr (inr clash))) (inl lacks) = other_than name (codes "state") (codes "replay") refl clash.0 lacks.0
+lacks_or_clashes name given clients (inr (inr (inr clash))) (inr (inl lacks)) = other_than name (codes "state") (codes "serve") refl clash.0 lacks.0
+lacks_or_clashes name given clients (inr (inr (inr clash))) (inr (inr lacks)) = clash.1 lacks.1
 
 clashes_or_none : (name : Text) (given : Text → Option Text) (clients : List Text) → IsClashing name given clients → IsClientless name given clients → ⊥
 clashes_or_none name given clients (inl clash) none = none.2 clash.2
 clashes_or_none name given clients (inr (inl clash)) none = other_than name (codes "replay") (codes "serve") refl clash.0 none.0
-clashes_or_none name given clients (inr (inr clash)) none = other_than name (codes "live") (codes "serve") refl clash.0 none.0
+clashes_or_none name given clients (inr (inr (inl clash))) none = other_than name (codes "live") (codes "serve") refl clash.0 none.0
+clashes_or_none name given clients (inr (inr (inr clash))) none = other_than name (codes "state") (codes "serve") refl clash.0 none.0
 
 one_kind : (j k : ErrorKind) (name : Text) (given : Text → Option Text) (clients : List Text) → IsTold j name given clients → IsTold k name given clients → j ≡ k
 one_kind j k name given clients (inl a) (inl b) = a.1 ∙ sym b.1

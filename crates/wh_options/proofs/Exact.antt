@@ -35,7 +35,9 @@ use Rattle.wh_options.proofs.Words.{IsFine, self_same}
 use Rattle.wh_options.proofs.Singles.{choice_option, file_option, is_single, many_option, number_option, single_parts, switch_is}
 use Rattle.wh_options.proofs.Spells.{AllTaken, settings_fine}
 use Rattle.wh_options.proofs.Serving.{says_of_serve, says_of_state}
-use Rattle.wh_options.proofs.Menus.{MenuTexts, check_ruled, leaf_at, live_plain, menu_texts, replay_plain, serve_plain, state_plain, verify_plain}
+use Rattle.wh_options.proofs.Fleets.{live_plain, replay_plain, serve_plain}
+use Rattle.wh_options.proofs.Menus.{MenuTexts, leaf_at, menu_texts}
+use Rattle.wh_options.proofs.Ruled.{check_ruled, state_plain, verify_plain}
 use Rattle.wh_options.proofs.Uses.{IsValid, once_parts, all_apart, valid_taken, none_fresh, level_fine, Enters, top_fine, check_enters, replay_enters, verify_enters, live_enters, serve_enters, state_enters}
 
 -- ---- the value of each setting
@@ -372,7 +374,10 @@ state_valid p t r q settings words says x listed value = elim (either_true _ _ l
     | inl is ↦ valid_file (leaf_at 5 p t r q) settings x (codes "log") says.kept (bytes_same _ _ is) value refl refl refl refl says.log
     | inr f ↦ elim (either_true _ _ f) [
       | inl is ↦ valid_may (leaf_at 5 p t r q) settings x (codes "after") 0 999999999 says.count (bytes_same _ _ is) value refl refl refl refl (lit< tt) says.after
-      | inr none ↦ absurd (true≢false (sym none))
+      | inr g ↦ elim (either_true _ _ g) [
+        | inl is ↦ valid_switch (leaf_at 5 p t r q) x (codes "stand") (bytes_same _ _ is) refl refl refl refl refl value.1
+        | inr none ↦ absurd (true≢false (sym none))
+      ]
     ]
   ]
 ]

@@ -13,6 +13,9 @@ pub mod Singles
 pub mod Given
 pub mod Serving
 pub mod Menus
+pub mod Ruled
+pub mod Fleets
+pub mod Lines
 pub mod Spells
 pub mod Uses
 pub mod Exact

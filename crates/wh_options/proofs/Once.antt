@@ -305,7 +305,8 @@ serve_once xs ys o p all m n =
 state_once : (xs ys : List Setting) (o p : StateOptions) → Agree xs ys → GivesState xs o → GivesState ys p → AreSame (State o) (State p)
 state_once xs ys o p agree m n =
     let log : Some o.log.now ≡ Some p.log.now = m.log.is ∙ agree (codes "log") ∙ sym n.log.is in
-    (some_same o.log.now p.log.now log, may_once xs ys (codes "after") 0 999999999 o.after p.after agree m.after n.after, ends_once xs ys o.homes p.homes agree m.ends n.ends)
+    let agree_stand = ap is_some (agree (codes "stand")) in
+    (some_same o.log.now p.log.now log, may_once xs ys (codes "after") 0 999999999 o.after p.after agree m.after n.after, ends_once xs ys o.homes p.homes agree m.ends n.ends, m.stand ∙ agree_stand ∙ sym n.stand)
 
 apart_so : (name told one other : Text) → name ≡ told → bytes_eq one other ≡ false → name ≡ one → told ≡ other → ⊥
 apart_so name told one other is differs m n = other_word one other differs (sym m ∙ is ∙ n)

@@ -82,9 +82,10 @@ ruled_app name ends = with_ends_rule ends (new_app name)
 abbrev pub verify_app : Choices → App
 verify_app ends = with_rule (with_rule (ruled_app (codes "verify") ends) (switch_rule (codes "unended"))) (number_rule (codes "wlog") 3 3)
 
--- the subcommand that is also told which file has the log, and how many of its entries count
+-- the subcommand that is also told which file has the log, how many of its entries count, and whether the vehicles' stand is told
 abbrev pub state_app : Choices → App
-state_app ends = with_rule (with_rule (ruled_app (codes "state") ends) (file_rule (codes "log"))) (number_rule (codes "after") 0 999999999)
+state_app ends = with_rule (with_rule (with_rule (ruled_app (codes "state") ends) (file_rule (codes "log")))
+    (number_rule (codes "after") 0 999999999)) (switch_rule (codes "stand"))
 
 -- the options that say which planners there are, and where paths end
 abbrev pub fleet_app : Text → Choices → Choices → App

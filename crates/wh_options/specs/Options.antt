@@ -126,7 +126,7 @@ abbrev pub verify_names : List Text
 verify_names = codes "ends" ∷ codes "unended" ∷ codes "wlog" ∷ []
 
 abbrev pub state_names : List Text
-state_names = codes "ends" ∷ codes "log" ∷ codes "after" ∷ []
+state_names = codes "ends" ∷ codes "log" ∷ codes "after" ∷ codes "stand" ∷ []
 
 abbrev pub replay_names : List Text
 replay_names = codes "planner" ∷ codes "slack" ∷ codes "effort" ∷ codes "slots" ∷ codes "bank" ∷ codes "spares" ∷ codes "ends" ∷ codes "tail"
@@ -160,6 +160,7 @@ pub record GivesState (settings : List Setting) (o : StateOptions) : Type 0 wher
   pub ends : GivesHomes settings o.homes
   pub log : GivesFile settings (codes "log") (Some o.log.now)
   pub after : MayGive settings (codes "after") 0 999999999 o.after
+  pub stand : GivesSwitch settings (codes "stand") o.stand
 
 -- what each setting of `replay` says by itself
 pub record GivesReplay (settings : List Setting) (o : ReplayOptions) : Type 0 where
@@ -238,6 +239,10 @@ DeliversByVehicles given = (given (codes "deliver") ≢ None) × (given (codes "
 abbrev pub ReplayClashes : (Text → Option Text) → Type 0
 ReplayClashes given = DeliversByVehicles given ⊎ BoundsPatient given
 
+-- what `state` is given does not go together: the vehicles' stand is told after all entries
+abbrev pub StateClashes : (Text → Option Text) → Type 0
+StateClashes given = (given (codes "stand") ≢ None) × (given (codes "after") ≢ None)
+
 -- what each setting of a subcommand says by itself
 abbrev pub EachGives : Text → List Setting → Options → Type 0
 EachGives name settings (Check o) = (name ≡ codes "check") × GivesRule settings o.homes
@@ -245,7 +250,7 @@ EachGives name settings (Replay o) = (name ≡ codes "replay") × GivesReplay se
 EachGives name settings (Verify o) = (name ≡ codes "verify") × GivesVerify settings o
 EachGives name settings (Live o) = (name ≡ codes "live") × GivesLive settings o × (¬ BoundsPatient (λ id. value_of id settings))
 EachGives name settings (Serve o) = (name ≡ codes "serve") × GivesServe settings o
-EachGives name settings (State o) = (name ≡ codes "state") × GivesState settings o
+EachGives name settings (State o) = (name ≡ codes "state") × GivesState settings o × (¬ StateClashes (λ id. value_of id settings))
 
 -- an option of `replay` is given without the one that it belongs to
 abbrev pub ReplayLacks : (Text → Option Text) → Type 0
@@ -330,7 +335,8 @@ IsLacking name given clients = LacksAny name given
 abbrev pub IsClashing : Way
 IsClashing name given clients = ((name ≡ codes "serve") × (¬ ServeLacks given) × ServeClashes given)
     ⊎ (((name ≡ codes "replay") × (¬ ReplayLacks given) × ReplayClashes given)
-    ⊎ ((name ≡ codes "live") × BoundsPatient given))
+    ⊎ (((name ≡ codes "live") × BoundsPatient given)
+    ⊎ ((name ≡ codes "state") × (¬ StateLacks given) × StateClashes given)))
 
 -- nothing lacks and nothing clashes, and the texts given for clients name none, or not each its own
 abbrev pub IsClientless : Way
@@ -352,5 +358,5 @@ AreSame (Replay o) (Replay p) = (o.fleet ≡ p.fleet) × (o.tail ≡ p.tail) × 
 AreSame (Serve o) (Serve p) = (o.fleet ≡ p.fleet) × (o.journal ≡ p.journal) × (o.share ≡ p.share) × (o.replies ≡ p.replies)
     × (o.log.now ≡ p.log.now) × (o.anew ≡ p.anew) × (o.every ≡ p.every) × (board_of o ≡ board_of p)
     × (o.board_every ≡ p.board_every) × AllZip IsSameClient o.clients.items p.clients.items
-AreSame (State o) (State p) = (o.log.now ≡ p.log.now) × (o.after ≡ p.after) × (o.homes ≡ p.homes)
+AreSame (State o) (State p) = (o.log.now ≡ p.log.now) × (o.after ≡ p.after) × (o.homes ≡ p.homes) × (o.stand ≡ p.stand)
 AreSame o p = o ≡ p

@@ -7,9 +7,9 @@ use Rattle.clap.specs.Words.{Row, Text, all_of}
 use Rattle.clap.specs.declared.error.kind.ErrorKind.{ErrorKind}
 use Rattle.clap.specs.declared.error.kind.ErrorKind.TheVariants.{ArgumentConflict, MissingRequiredArgument, ValueValidation}
 use Rattle.wh_client.specs.Clients.{GiveClients}
-use Rattle.wh_options.specs.Options.{BoundsPatient, IsClashing, IsClientless, IsLacking, ReplayClashes, ReplayLacks, ServeClashes, ServeLacks, StateLacks, Way, board_of, log_of}
+use Rattle.wh_options.specs.Options.{BoundsPatient, IsClashing, IsClientless, IsLacking, ReplayClashes, ReplayLacks, ServeClashes, ServeLacks, StateClashes, StateLacks, Way, board_of, log_of}
 use Rattle.wh_options.specs.declared.mistake.Mistake.{Mistake}
-use Rattle.wh_options.specs.declared.mistake.Mistake.TheVariants.{AheadWithoutVehicles, BehindWithoutVehicles, BoardCoversLog, DeliverWithVehicles, BoardEveryWithoutBoard, EffortOfPatientLive, EffortOfPatientReplay, EffortOfPatientServe, NewWithoutLog, NoClients, ServeWithoutClient, ServeWithoutLog, StateWithoutLog, SlackOfPatientLive, SlackOfPatientReplay, SlackOfPatientServe, ToldWithoutLog}
+use Rattle.wh_options.specs.declared.mistake.Mistake.TheVariants.{AheadWithoutVehicles, BehindWithoutVehicles, BoardCoversLog, DeliverWithVehicles, BoardEveryWithoutBoard, EffortOfPatientLive, EffortOfPatientReplay, EffortOfPatientServe, NewWithoutLog, NoClients, ServeWithoutClient, ServeWithoutLog, StandWithAfter, StateWithoutLog, SlackOfPatientLive, SlackOfPatientReplay, SlackOfPatientServe, ToldWithoutLog}
 use Rattle.wh_options.specs.declared.chosen.PlannerKind.{PlannerKind}
 use Rattle.wh_options.specs.declared.chosen.PlannerKind.TheVariants.{Near, Patient}
 use Rattle.wh_options.specs.declared.chosen.Tail.{Tail}
@@ -111,7 +111,7 @@ Reads name given clients (Live o) = (name ≡ codes "live") × ReadsLive given o
 Reads name given clients (Serve o) = (name ≡ codes "serve") × ReadsServe given clients o × (¬ ServeLacks given)
     × (¬ ServeClashes given)
 Reads name given clients (State o) = (name ≡ codes "state") × (Some o.log.now ≡ given (codes "log")) × MayRead (given (codes "after")) o.after
-    × (o.homes ≡ homes_of (given (codes "ends")))
+    × (o.homes ≡ homes_of (given (codes "ends"))) × (o.stand ≡ is_some (given (codes "stand"))) × (¬ StateClashes given)
 
 -- the kind of error that tells of a mistake
 abbrev pub kind_of_mistake : Mistake → ErrorKind
@@ -125,6 +125,7 @@ kind_of_mistake StateWithoutLog = MissingRequiredArgument
 kind_of_mistake ServeWithoutClient = MissingRequiredArgument
 kind_of_mistake BoardCoversLog = ArgumentConflict
 kind_of_mistake DeliverWithVehicles = ArgumentConflict
+kind_of_mistake StandWithAfter = ArgumentConflict
 kind_of_mistake SlackOfPatientReplay = ArgumentConflict
 kind_of_mistake SlackOfPatientLive = ArgumentConflict
 kind_of_mistake SlackOfPatientServe = ArgumentConflict
@@ -155,6 +156,12 @@ JudgesServe given (Ok log) = (Some log.now ≡ given (codes "log")) × (¬ Serve
 JudgesServe given (Err mistake) = (ServeLacks given × (kind_of_mistake mistake ≡ MissingRequiredArgument))
     ⊎ ((¬ ServeLacks given) × ServeClashes given × (kind_of_mistake mistake ≡ ArgumentConflict))
 
+-- the name of the log's file, where what was found for `state` goes together; else a mistake that says what does not
+abbrev pub JudgesState : (Text → Option Text) → Result (Bor Text) Mistake → Type 0
+JudgesState given (Ok log) = (Some log.now ≡ given (codes "log")) × (¬ StateClashes given)
+JudgesState given (Err mistake) = (StateLacks given × (kind_of_mistake mistake ≡ MissingRequiredArgument))
+    ⊎ ((¬ StateLacks given) × StateClashes given × (kind_of_mistake mistake ≡ ArgumentConflict))
+
 -- all the texts that were found for `client`
 abbrev pub clients_in : List Row → List Text
 clients_in rows = unwrap_or (all_of (codes "client") rows) []
@@ -164,7 +171,8 @@ abbrev pub ReadsLine : (Text → Option Text) → List Text → Result Options M
 ReadsLine given clients (Ok o) = Reads (codes "serve") given clients o
 ReadsLine given clients (Err mistake) = IsTold (kind_of_mistake mistake) (codes "serve") given clients
 
--- the options of `state`, or that no log was found
+-- the options of `state`, or the mistake in them
 abbrev pub ReadsState : (Text → Option Text) → Result Options Mistake → Type 0
 ReadsState given (Ok o) = (clients : List Text) → Reads (codes "state") given clients o
-ReadsState given (Err mistake) = StateLacks given × (kind_of_mistake mistake ≡ MissingRequiredArgument)
+ReadsState given (Err mistake) = (StateLacks given × (kind_of_mistake mistake ≡ MissingRequiredArgument))
+    ⊎ ((¬ StateLacks given) × StateClashes given × (kind_of_mistake mistake ≡ ArgumentConflict))

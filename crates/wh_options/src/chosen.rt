@@ -79,6 +79,8 @@ pub struct StateOptions<'a> {
     pub after: Option<u32>,
     /// Whether the log is of a run whose paths end at homes.
     pub homes: bool,
+    /// Whether the state is told as the vehicles stand, by the reports beside the log; it is told after all entries then.
+    pub stand: bool,
 }
 
 /// How late vehicles may be, and how far ahead they are told.

@@ -414,7 +414,10 @@ pub(crate) fn state_command<'a>(alloc: Global) -> Result<Command<'a>, AllocError
     let command = with_file(alloc, command, "log", help)?;
     let help =
         "Tells the state after N entries, counted from the opening, 0 to 999999999 [default: after all]";
-    with_number(alloc, command, "after", 0, LAST_ENTRY, help)
+    let command = with_number(alloc, command, "after", 0, LAST_ENTRY, help)?;
+    let help =
+        "Tells the state as the vehicles stand by FILE.at, after a breakdown or a stop; the points need `rule nofollow`";
+    with_switch(alloc, command, "stand", help)
 }
 
 // The command with the subcommand `state`.

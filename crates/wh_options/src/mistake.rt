@@ -2,8 +2,8 @@
 ghost use Rattle.std.specs.Prelude.{◌≡◌, ◌++◌, IfOk, MatchBool, codes, is_some};
 ghost use Rattle.std.specs.Str.{bytes_eq};
 ghost use Rattle.clap.specs.Words.{first_value, found_of, kind_of};
-ghost use Rattle.wh_options.specs.Options.{BoundsPatient, ReplayClashes, ReplayLacks, covers, is_patient};
-ghost use Rattle.wh_options.specs.Reads.{Judges, JudgesReplay, JudgesServe, kind_of_mistake};
+ghost use Rattle.wh_options.specs.Options.{BoundsPatient, ReplayClashes, ReplayLacks, StateClashes, covers, is_patient};
+ghost use Rattle.wh_options.specs.Reads.{Judges, JudgesReplay, JudgesServe, JudgesState, kind_of_mistake};
 
 use crate::command::{live_command, replay_command, serve_command, state_command};
 use clap::error::ErrorKind;
@@ -33,6 +33,8 @@ pub(crate) enum Mistake {
     BoardCoversLog,
     /// All is to be delivered behind the script, and by vehicles.
     DeliverWithVehicles,
+    /// The state as the vehicles stand, and after some of the entries.
+    StandWithAfter,
     /// Paths of a replay may be late, and its planners are patient.
     SlackOfPatientReplay,
     /// The same of the threads of `live`.
@@ -68,6 +70,7 @@ impl Mistake {
             Mistake::DeliverWithVehicles => {
                 "the argument '--deliver' cannot be used with '--vehicles'"
             }
+            Mistake::StandWithAfter => "the argument '--stand' cannot be used with '--after <N>'",
             Mistake::SlackOfPatientReplay
             | Mistake::SlackOfPatientLive
             | Mistake::SlackOfPatientServe => {
@@ -98,6 +101,7 @@ impl Mistake {
             | Mistake::ServeWithoutClient => ErrorKind::MissingRequiredArgument,
             Mistake::BoardCoversLog
             | Mistake::DeliverWithVehicles
+            | Mistake::StandWithAfter
             | Mistake::SlackOfPatientReplay
             | Mistake::SlackOfPatientLive
             | Mistake::SlackOfPatientServe
@@ -123,7 +127,9 @@ impl Mistake {
             Mistake::SlackOfPatientLive | Mistake::EffortOfPatientLive => {
                 live_command(alloc)?.bin_name("warehouse live")
             }
-            Mistake::StateWithoutLog => state_command(alloc)?.bin_name("warehouse state"),
+            Mistake::StateWithoutLog | Mistake::StandWithAfter => {
+                state_command(alloc)?.bin_name("warehouse state")
+            }
             _ => serve_command(alloc)?.bin_name("warehouse serve"),
         }
     }
@@ -226,6 +232,29 @@ pub(crate) fn mistake_of_replay(replay: &ArgMatches<'_>) -> Option<Mistake>
     match lack_of_replay(replay) {
         Some(mistake) => Some(mistake),
         None => clash_of_replay(replay),
+    }
+}
+
+/// What `state` is given beside what it does not go with, if something is.
+fn clash_of_state(state: &ArgMatches<'_>) -> Option<Mistake>
+    ensures { Judges ErrorKind.ArgumentConflict StateClashes (first_value (found_of state.now)) result }
+{
+    if is_given(state, "stand") && is_given(state, "after") {
+        return Some(Mistake::StandWithAfter);
+    }
+    None
+}
+
+/// The name of the log's file, where what `state` is given goes together; else what does not.
+pub(crate) fn log_of_state<'a>(state: &ArgMatches<'a>) -> Result<&'a str, Mistake>
+    ensures { JudgesState (first_value (found_of state.now)) result }
+{
+    let Some(log) = state.get_str("log") else {
+        return Err(Mistake::StateWithoutLog);
+    };
+    match clash_of_state(state) {
+        Some(mistake) => Err(mistake),
+        None => Ok(log),
     }
 }
 

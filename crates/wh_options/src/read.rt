@@ -12,7 +12,9 @@ use crate::chosen::{
     StateOptions, Tail, VehicleOptions, VerifyOptions,
 };
 use crate::command::warehouse_command;
-use crate::mistake::{Mistake, is_given, log_of_serve, mistake_of_live, mistake_of_replay};
+use crate::mistake::{
+    Mistake, is_given, log_of_serve, log_of_state, mistake_of_live, mistake_of_replay,
+};
 use clap::error::ErrorKind;
 use clap::{ArgMatches, Error};
 use std::alloc::{AllocError, Global};
@@ -214,13 +216,14 @@ fn read_serve<'a>(
 fn read_state<'a>(state: &ArgMatches<'a>) -> Result<Options<'a>, Mistake>
     ensures { ReadsState (first_value (found_of state.now)) result }
 {
-    match state.get_str("log") {
-        Some(log) => Ok(Options::State(StateOptions {
+    match log_of_state(state) {
+        Ok(log) => Ok(Options::State(StateOptions {
             log,
             after: number_if_given(state, "after"),
             homes: homes(state),
+            stand: is_given(state, "stand"),
         })),
-        None => Err(Mistake::StateWithoutLog),
+        Err(mistake) => Err(mistake),
     }
 }
 

@@ -12,3 +12,4 @@ mod Verdicts
 mod Convoyed
 mod Undelivered
 mod Unstated
+mod Stood

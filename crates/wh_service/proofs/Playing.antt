@@ -39,7 +39,7 @@ use Rattle.wh_service.specs.Fleets.{IsEquipped, IsForPlanner, IsMember, IsOfFlee
 use Rattle.wh_service.specs.declared.parts.PlannerParts.{PlannerParts}
 use Rattle.wh_service.specs.Plays.{IsOpened, Plays, PlaysThrough, PlaysUntil, PlaysWithoutTail, IsWhyUnplayed}
 use Rattle.wh_service.specs.Tails.{IsWhyNoTail, tail_after}
-use Rattle.wh_service.specs.Serves.{RanFrom, opening, Operates, EndsInPlay, Finishes, Serves, ServesByFleet, ServesUntil, ServesWithoutTail, IsWhyUnserved, IsWhyUnservedByFleet}
+use Rattle.wh_service.specs.Serves.{RanFrom, opening, Operates, Finishes, Serves, ServesByFleet, ServesUntil, ServesWithoutTail, IsWhyUnserved, IsWhyUnservedByFleet}
 use Rattle.wh_service.proofs.Openings.{opening_read}
 use Rattle.wh_service.proofs.Replayed.{replay_logged}
 use Rattle.wh_service.proofs.Spared.{ran_from}

@@ -1,5 +1,5 @@
 -- What is delivered behind a script, where nothing is kept.
-use Rattle.std.proofs.Common.{◌≡◌, ◌≢◌, ℕ, List, Result, Ok, Err, subst}
+use Rattle.std.proofs.Common.{◌≢◌, Result, Ok, Err, subst}
 use Rattle.std.specs.Prelude.{IfOk, OnOk}
 use Rattle.wh_deliver.specs.Machines.{Records}
 use Rattle.wh_deliver.specs.Delivers.{KeepsShort}

@@ -1,10 +1,9 @@
 -- A verdict is of the grid and the points, whatever the rule of a run.
-use Rattle.std.proofs.Common.{ℕ, Bool, false}
+use Rattle.std.proofs.Common.{Bool}
 use Rattle.wh_grid.specs.Grids.{Floor}
 use Rattle.wh_grid.specs.declared.cell.Cell.{Cell}
 use Rattle.wh_points.specs.Points.{Layout, Site}
-use Rattle.wh_points.specs.Formed.{IsFormed, IsJoin}
-use Rattle.wh_formed.specs.Verdicts.{AreJoined, IsFirstCut, IsVerdict, JoinedBy}
+use Rattle.wh_formed.specs.Verdicts.{IsVerdict, JoinedBy}
 use Rattle.wh_formed.specs.declared.verdict.Verdict.{Verdict}
 use Rattle.wh_formed.specs.declared.verdict.Verdict.TheVariants.{FewParkings, Cut, Formed}
 

@@ -8,3 +8,4 @@ pub mod Convoys
 pub mod Checks
 pub mod Verifies
 pub mod States
+pub mod Stands

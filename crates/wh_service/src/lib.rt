@@ -4,7 +4,8 @@
 //! slots, or from what the log holds; replies, log or ledger are what was written, and in a file each reply was synced
 //! first; on a well-formed instance no request is refused for lack of a path (`replay`, `serve_kept`, `serve_late`,
 //! `serve_convoy`, `check`, `verify`);
-//! `state` writes the front of a log that goes on from the one in a file, and changes nothing (`state`).
+//! `state` writes the front of a log that goes on from the one in a file, also as its vehicles stand by the file of arrivals, and changes
+//! nothing (`state`, `state_standing`).
 //!
 //! `replay` is handed how one planner is made, so that it works with planners of any type, and makes none
 //! itself.
@@ -16,6 +17,7 @@ mod kept;
 mod parts;
 mod program;
 mod settings;
+mod standing;
 mod stating;
 mod tail;
 mod vehicles;
@@ -29,6 +31,7 @@ pub use kept::{keep_trouble, serve_kept, start_aside};
 pub use parts::PlannerParts;
 pub use program::{Played, ended, form_of, play, replay};
 pub use settings::{KeptSetting, read_kept_setting, read_setting};
+pub use standing::state_standing;
 pub use stating::state;
 pub use vehicles::serve_late;
 pub use verdict::check;

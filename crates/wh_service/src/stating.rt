@@ -16,7 +16,7 @@ use wh_log::NoMemory;
 use wh_options::StateOptions;
 
 /// The error of a log that tells no state to go on from.
-fn trouble_of(fault: HandoverFault) -> Trouble
+pub(crate) fn trouble_of(fault: HandoverFault) -> Trouble
     ensures { result ≡ trouble_of fault }
 {
     match fault {
@@ -28,7 +28,7 @@ fn trouble_of(fault: HandoverFault) -> Trouble
 }
 
 /// All bytes of the file of a log.
-fn text_of<L: LogFile>(alloc: Global, file: &mut L) -> Result<Vec<u8>, Trouble>
+pub(crate) fn text_of<L: LogFile>(alloc: Global, file: &mut L) -> Result<Vec<u8>, Trouble>
     ensures ok { IfOk result (λ text. IfSome (L.contents file.old) (λ held. text.items ≡ held)) }
     ensures fault { IfErr result (λ told. IsUnread told) }
     ensures same { L.contents file.new ≡ L.contents file.old }

@@ -5,7 +5,8 @@ use Rattle.wh_event.specs.declared.entry.Entry.{Entry}
 use Rattle.wh_resume.specs.Behind.{rules_of}
 use Rattle.wh_snapshot.specs.Snapshots.{AreCallers, HaveCallers, Reaches}
 use Rattle.wh_handover.specs.Prefaces.{callers_had, counts_had, cut_at}
-use Rattle.wh_handover.proofs.Facts.{known, first_of_all, snapshot_as}
+use Rattle.wh_handover.proofs.Facts.{known, snapshot_as}
+use Rattle.wh_handover.proofs.Stops.{first_of_all}
 use Rattle.wh_handover.proofs.front.front_at.Goals as goal
 
 pub snapshot-requires-clause-callers : goal.snapshot-requires-clause-callers

@@ -78,22 +78,24 @@ returns-clause-ok c =
     let entries = c.history-history.ensures.value ∙ k.entries_are in
     let count = c.in-Some.count in
     let made = c.in_ok-front.ensures.is in
-    let numbered : c.in-Some-number_of.number ≡ k.told.number = c.in-Some-number_of.ensures.some.0 ∙ k.number_is in
-    record {
-      told = k.told;
-      tells = tells r.book.site c.args.text.now r.bytes r.book r.preface k c.history-history.ensures.opening c.history-history.ensures.run;
-      count = count;
-      count_is = is_count c.args.after k.told (all_told c.earlier_of-earlier.result.counts.now) (length c.history-history.result.now) count (ap all_told (c.earlier_of-earlier.ensures.counts ∙ k.counts_are))
-          (ap (λ (es : List Entry). length es) entries) c.in-Some.ensures.some.0 c.in-Some.ensures.some.1;
-      state = made.0;
-      run = subst (λ (s : State). Run r.book.site s (take count k.told.entries) made.0) k.opening_is (subst (λ (es : List Entry). Run r.book.site r.book.opening (take count es) made.0) k.entries_are made.1);
-      is = snapshot_as (callers_had r.preface) k.told.callers (counts_had r.preface) k.told.counts (cut_at r.book count made.0) (seen_after r.book.site k.told count made.0) c.in_ok-front.front
-          k.callers_are k.counts_are refl (ap (λ (es : List Entry). take count es) k.entries_are) made.2;
-      state_is = made.3;
-      before_is = c.in_ok-front.ensures.before ∙ c.in_ok-before.ensures.value k.told.head k.rest text bytes
-          ∙ ap (λ (es : List Entry). before.Log c.in-Some-number_of.number (length (k.told.head ++ entries_told (take count es))) (encode_lower (sha256 (k.told.head ++ entries_told (take count es))))) entries
-          ∙ ap (λ n. before.Log n (length (k.told.head ++ entries_told (take count k.told.entries))) (encode_lower (sha256 (k.told.head ++ entries_told (take count k.told.entries))))) numbered;
-      rules_are = c.in_ok-front.ensures.rules;
-      kind_is = c.in_ok-front.ensures.kind;
-      fits = c.in_ok-front.ensures.fits;
-    }
+    let numbered : c.in-Some-number_of.number ≡ k.told.number = c.in-Some-number_of.ensures.some.0 ∙ k.number_is in (
+      record {
+        told = k.told;
+        tells = tells r.book.site c.args.text.now r.bytes r.book r.preface k c.history-history.ensures.opening c.history-history.ensures.run;
+        count = count;
+        count_is = is_count c.args.after k.told (all_told c.earlier_of-earlier.result.counts.now) (length c.history-history.result.now) count (ap all_told (c.earlier_of-earlier.ensures.counts ∙ k.counts_are))
+            (ap (λ (es : List Entry). length es) entries) c.in-Some.ensures.some.0 c.in-Some.ensures.some.1;
+        state = made.0;
+        run = subst (λ (s : State). Run r.book.site s (take count k.told.entries) made.0) k.opening_is (subst (λ (es : List Entry). Run r.book.site r.book.opening (take count es) made.0) k.entries_are made.1);
+        is = snapshot_as (callers_had r.preface) k.told.callers (counts_had r.preface) k.told.counts (cut_at r.book count made.0) (seen_after r.book.site k.told count made.0) c.in_ok-front.front
+            k.callers_are k.counts_are refl (ap (λ (es : List Entry). take count es) k.entries_are) made.2;
+        state_is = made.3;
+        before_is = c.in_ok-front.ensures.before ∙ c.in_ok-before.ensures.value k.told.head k.rest text bytes
+            ∙ ap (λ (es : List Entry). before.Log c.in-Some-number_of.number (length (k.told.head ++ entries_told (take count es))) (encode_lower (sha256 (k.told.head ++ entries_told (take count es))))) entries
+            ∙ ap (λ n. before.Log n (length (k.told.head ++ entries_told (take count k.told.entries))) (encode_lower (sha256 (k.told.head ++ entries_told (take count k.told.entries))))) numbered;
+        rules_are = c.in_ok-front.ensures.rules;
+        kind_is = c.in_ok-front.ensures.kind;
+        fits = c.in_ok-front.ensures.fits;
+      },
+      sym k.opening_is,
+    )

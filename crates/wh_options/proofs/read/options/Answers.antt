@@ -12,7 +12,8 @@ use Rattle.wh_options.specs.Reads.{kind_of_mistake}
 use Rattle.wh_options.proofs.Amiss.{clashing, clientless, lacking, mistaken_never, mistaken_once}
 use Rattle.wh_options.proofs.Exact.{given_is_taken, said_is_taken}
 use Rattle.wh_options.proofs.Once.{given_once}
-use Rattle.wh_options.proofs.Menus.{menu_is_simple, words_give, words_mistaken}
+use Rattle.wh_options.proofs.Lines.{words_give, words_mistaken}
+use Rattle.wh_options.proofs.Menus.{menu_is_simple}
 use Rattle.wh_options.proofs.read.options.Goals as goal
 
 -- a list of kinds is not empty and of one

@@ -4,7 +4,7 @@ use Rattle.std.specs.Prelude.{IfErr, IfOk, is_some}
 use Rattle.std.proofs.lemmas.Result.{IfOk-weaker}
 use Rattle.clap.specs.Words.{Row, Text, first_of, first_value, found_of, rows_of, subcommand_name_of, subcommand_rows_of}
 use Rattle.clap.specs.declared.parser.matches.ArgMatches.{ArgMatches}
-use Rattle.wh_options.specs.Options.{BoundsPatient, ReplayClashes, ReplayLacks, StateLacks}
+use Rattle.wh_options.specs.Options.{BoundsPatient, ReplayClashes, ReplayLacks, StateClashes, StateLacks}
 use Rattle.wh_options.specs.Reads.{IsTold, MayRead, Reads, ReadsLine, ReadsLive, ReadsReplay, ReadsState, clients_in, homes_of, kind_of_mistake}
 use Rattle.wh_options.specs.declared.chosen.Options.{Options}
 use Rattle.wh_options.specs.declared.mistake.Mistake.{Mistake}
@@ -48,7 +48,18 @@ state_mistaken : (m inner : ArgMatches) (read : Result Options Mistake) → subc
 state_mistaken m inner (Ok o) entered found line = tt
 state_mistaken m inner (Err mistake) entered found line = λ name rows e.
     let same = given_are m inner name rows e found in
-    inl (inr (inr (is_named m name (codes "state") rows e entered, lacks_as StateLacks (first_value (found_of inner)) (λ id. first_of id rows) same line.0)), line.1)
+    let named = is_named m name (codes "state") rows e entered in
+    elim line [
+      | inl lacks ↦ inl (inr (inr (named, lacks_as StateLacks (first_value (found_of inner)) (λ id. first_of id rows) same lacks.0)), lacks.1)
+      | inr clash ↦ inr (inl (
+        inr (inr (inr (
+          named,
+          subst (λ (f : Text → Option Text). StateLacks f → ⊥) (λ i id. same id i) clash.0,
+          lacks_as StateClashes (first_value (found_of inner)) (λ id. first_of id rows) same clash.1,
+        ))),
+        clash.2,
+      ))
+    ]
 
 pub returns-in-Some-mistake_of_replay-clause-mistaken : goal.returns-in-Some-mistake_of_replay-clause-mistaken
 returns-in-Some-mistake_of_replay-clause-mistaken c = λ name rows e.
@@ -81,7 +92,7 @@ returns-in-Some-mistake_of_live-clause-mistaken c = λ name rows e.
     let same = given_are c.args.matches.now live.live.now name rows e live.ensures.rows in
     let named = is_named c.args.matches.now name (codes "live") rows e (live.ensures.found.0 refl) in
     let clash = c.in-Some-mistake_of_live.ensures in
-    inr (inl (inr (inr (named, subst (λ (f : Text → Option Text). BoundsPatient f) (λ i id. same id i) clash.0)), clash.1))
+    inr (inl (inr (inr (inl (named, subst (λ (f : Text → Option Text). BoundsPatient f) (λ i id. same id i) clash.0))), clash.1))
 
 pub returns-in-None-mistake_of_live-clause-read : goal.returns-in-None-mistake_of_live-clause-read
 returns-in-None-mistake_of_live-clause-read c = λ name rows e.

@@ -1,7 +1,6 @@
 use Rattle.std.proofs.Common.{rules, ap, inl, inr, refl}
 use Rattle.std.proofs.KnownBytes.{Keeps-refl}
 use Rattle.wh_points.specs.Points.{Site}
-use Rattle.wh_edge.specs.declared.trouble.Trouble.TheVariants as trouble
 use Rattle.wh_journal.specs.Journals.{log_asker}
 use Rattle.wh_service.proofs.Lasting.{kept_at, start_of_file}
 use Rattle.wh_service.proofs.Convoyed.{at_ahead, both, serves_convoy, stops_convoy, stops_opening}

@@ -1,5 +1,5 @@
-use Rattle.std.proofs.Common.{rules, ◌≡◌, List, ℕ, inl, inr, refl, subst}
-use Rattle.std.specs.Prelude.{Option, None, false}
+use Rattle.std.proofs.Common.{rules, ◌≡◌, inl, inr, refl, subst}
+use Rattle.std.specs.Prelude.{None, false}
 use Rattle.wh_continue.specs.Besides.{StandsBeside}
 use Rattle.wh_continue.specs.declared.beside.Beside.{Beside}
 use Rattle.wh_continue.specs.declared.beside.Beside.TheVariants as aside
