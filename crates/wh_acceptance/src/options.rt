@@ -459,11 +459,13 @@ fn other_subcommands(rt: HostRuntime) {
         homes: false,
         unended: false,
         wlog: None,
+        chain: false,
     });
     let homes = Options::Verify(VerifyOptions {
         homes: true,
         unended: false,
         wlog: None,
+        chain: false,
     });
     assert!(rt; gives(alloc, &["warehouse", "verify"], stops));
     assert!(rt; gives(alloc, &["warehouse", "verify", "--ends", "homes"], homes));
@@ -471,12 +473,14 @@ fn other_subcommands(rt: HostRuntime) {
         homes: false,
         unended: true,
         wlog: None,
+        chain: false,
     });
     assert!(rt; gives(alloc, &["warehouse", "verify", "--unended"], unended));
     let fronts = Options::Verify(VerifyOptions {
         homes: false,
         unended: false,
         wlog: Some(3),
+        chain: false,
     });
     assert!(rt; gives(alloc, &["warehouse", "verify", "--wlog", "3"], fronts));
     let live = LiveOptions {

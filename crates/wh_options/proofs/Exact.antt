@@ -361,7 +361,10 @@ verify_valid p t r q settings o words gives x listed value = elim (either_true _
     | inl is ↦ valid_switch (leaf_at 2 p t r q) x (codes "unended") (bytes_same _ _ is) refl refl refl refl refl value.1
     | inr f ↦ elim (either_true _ _ f) [
       | inl is ↦ valid_may (leaf_at 2 p t r q) settings x (codes "wlog") 3 3 o.wlog (bytes_same _ _ is) value refl refl refl refl (lit< tt) gives.wlog
-      | inr none ↦ absurd (true≢false (sym none))
+      | inr g ↦ elim (either_true _ _ g) [
+        | inl is ↦ valid_switch (leaf_at 2 p t r q) x (codes "chain") (bytes_same _ _ is) refl refl refl refl refl value.1
+        | inr none ↦ absurd (true≢false (sym none))
+      ]
     ]
   ]
 ]

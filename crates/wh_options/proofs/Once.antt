@@ -261,7 +261,8 @@ verify_once xs ys o p agree m n =
     let homes = ends_once xs ys o.homes p.homes agree m.ends n.ends in
     let unended : o.unended ≡ p.unended = m.unended ∙ ap is_some (agree (codes "unended")) ∙ sym n.unended in
     let wlog = may_once xs ys (codes "wlog") 3 3 o.wlog p.wlog agree m.wlog n.wlog in
-    λ i. record { homes = homes i; unended = unended i; wlog = wlog i }
+    let chain : o.chain ≡ p.chain = m.chain ∙ ap is_some (agree (codes "chain")) ∙ sym n.chain in
+    λ i. record { homes = homes i; unended = unended i; wlog = wlog i; chain = chain i }
 
 replay_once : (xs ys : List Setting) (o p : ReplayOptions) → Agree xs ys → GivesReplay xs o → GivesReplay ys p → AreSame (Replay o) (Replay p)
 replay_once xs ys o p agree m n =

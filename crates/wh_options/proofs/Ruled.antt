@@ -30,11 +30,12 @@ pub check_ruled : (p t r : Choices) (q : OtherChoices) → IsRuled (leaf_at 0 p 
 check_ruled p t r q = ((choice_plain (codes "ends") q.check_ends refl, asking_plain), refl, (filled (choice_rule (codes "ends") q.check_ends), refl, refl, refl))
 
 pub verify_plain : (p t r : Choices) (q : OtherChoices) → ArePlain (leaf_at 2 p t r q).rules
-verify_plain p t r q = (choice_plain (codes "ends") q.verify_ends refl, (switch_plain (codes "unended") refl refl, (number_plain (codes "wlog") 3 3 refl, asking_plain)))
+verify_plain p t r q = (choice_plain (codes "ends") q.verify_ends refl, (switch_plain (codes "unended") refl refl, (number_plain (codes "wlog") 3 3 refl, (switch_plain (codes "chain") refl refl, asking_plain))))
 
 verify_given : (p t r : Choices) (q : OtherChoices) (rest : List Text) (o : VerifyOptions) (says : LeafSays (leaf_at 2 p t r q) rest) → texts q.verify_ends.now ≡ ends_words
     → (o.homes ≡ homes_of (first_of (codes "ends") (rows_after (leaf_at 2 p t r q).rules [] rest))) × (o.unended ≡ is_some (first_of (codes "unended") (rows_after (leaf_at 2 p t r q).rules [] rest)))
     × MayRead (first_of (codes "wlog") (rows_after (leaf_at 2 p t r q).rules [] rest)) o.wlog
+    × (o.chain ≡ is_some (first_of (codes "chain") (rows_after (leaf_at 2 p t r q).rules [] rest)))
     → GivesVerify says.settings o
 verify_given p t r q rest o says words reads = record {
   only = only_names (leaf_at 2 p t r q).rules says.settings (verify_plain p t r q) says.taken;
@@ -42,6 +43,7 @@ verify_given p t r q rest o says words reads = record {
   unended = reads.1 ∙ ap is_some (says.first (codes "unended"));
   wlog = may_given (leaf_at 2 p t r q).rules says.settings (codes "wlog") 3 3 o.wlog (lit< tt) says.taken (filled (number_rule (codes "wlog") 3 3)) refl refl refl
       (first_of (codes "wlog") (rows_after (leaf_at 2 p t r q).rules [] rest)) (says.first (codes "wlog")) reads.2;
+  chain = reads.3 ∙ ap is_some (says.first (codes "chain"));
 }
 
 state_lacks : (given : Text → Option Text) (log : Text) → Some log ≡ given (codes "log") → LacksAny (codes "state") given → ⊥

@@ -78,9 +78,9 @@ with_ends_rule ends a = with_rule a (choice_rule (codes "ends") ends)
 abbrev pub ruled_app : Text → Choices → App
 ruled_app name ends = with_ends_rule ends (new_app name)
 
--- the subcommand that is also told that a log may lack its last line, and that one may be of version 3
+-- the subcommand that is also told that a log may lack its last line, that one may be of version 3, and that the logs of a chain are given
 abbrev pub verify_app : Choices → App
-verify_app ends = with_rule (with_rule (ruled_app (codes "verify") ends) (switch_rule (codes "unended"))) (number_rule (codes "wlog") 3 3)
+verify_app ends = with_rule (with_rule (with_rule (ruled_app (codes "verify") ends) (switch_rule (codes "unended"))) (number_rule (codes "wlog") 3 3)) (switch_rule (codes "chain"))
 
 -- the subcommand that is also told which file has the log, how many of its entries count, and whether the vehicles' stand is told
 abbrev pub state_app : Choices → App

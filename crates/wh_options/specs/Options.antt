@@ -123,7 +123,7 @@ abbrev pub rule_names : List Text
 rule_names = codes "ends" ∷ []
 
 abbrev pub verify_names : List Text
-verify_names = codes "ends" ∷ codes "unended" ∷ codes "wlog" ∷ []
+verify_names = codes "ends" ∷ codes "unended" ∷ codes "wlog" ∷ codes "chain" ∷ []
 
 abbrev pub state_names : List Text
 state_names = codes "ends" ∷ codes "log" ∷ codes "after" ∷ codes "stand" ∷ []
@@ -153,6 +153,7 @@ pub record GivesVerify (settings : List Setting) (o : VerifyOptions) : Type 0 wh
   pub ends : GivesHomes settings o.homes
   pub unended : GivesSwitch settings (codes "unended") o.unended
   pub wlog : MayGive settings (codes "wlog") 3 3 o.wlog
+  pub chain : GivesSwitch settings (codes "chain") o.chain
 
 -- what the settings of `state` say
 pub record GivesState (settings : List Setting) (o : StateOptions) : Type 0 where

@@ -106,7 +106,7 @@ Reads name given clients (Check o) = (name ≢ codes "replay") × (name ≢ code
     × (name ≡ codes "check" → o.homes ≡ homes_of (given (codes "ends")))
 Reads name given clients (Replay o) = (name ≡ codes "replay") × ReadsReplay given o × (¬ ReplayLacks given) × (¬ ReplayClashes given)
 Reads name given clients (Verify o) = (name ≡ codes "verify") × (o.homes ≡ homes_of (given (codes "ends"))) × (o.unended ≡ is_some (given (codes "unended")))
-    × MayRead (given (codes "wlog")) o.wlog
+    × MayRead (given (codes "wlog")) o.wlog × (o.chain ≡ is_some (given (codes "chain")))
 Reads name given clients (Live o) = (name ≡ codes "live") × ReadsLive given o × (¬ BoundsPatient given)
 Reads name given clients (Serve o) = (name ≡ codes "serve") × ReadsServe given clients o × (¬ ServeLacks given)
     × (¬ ServeClashes given)

@@ -68,6 +68,8 @@ pub struct VerifyOptions {
     pub unended: bool,
     /// 3, if logs of version 3 are taken too, which begin with a state.
     pub wlog: Option<u32>,
+    /// Whether the logs of a chain are given, of any version, each of which goes on from the one before.
+    pub chain: bool,
 }
 
 /// The options of `state`. They keep a text of the words that gave them.

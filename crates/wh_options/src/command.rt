@@ -368,7 +368,9 @@ fn verify_command<'a>(alloc: Global) -> Result<Command<'a>, AllocError>
         "Takes a log without its last line too, which comes when the warehouse is closed: `run N unended`";
     let command = with_switch(alloc, command, "unended", help)?;
     let help = "Takes logs of version 3 too, which begin with a state";
-    with_number(alloc, command, "wlog", FRONT_VERSION, FRONT_VERSION, help)
+    let command = with_number(alloc, command, "wlog", FRONT_VERSION, FRONT_VERSION, help)?;
+    let help = "Takes logs of any version, separated by `%%`, each of which goes on from the one before";
+    with_switch(alloc, command, "chain", help)
 }
 
 // The command with the subcommand `verify`.

@@ -272,6 +272,7 @@ fn read_options<'a>(
             homes: homes(verify),
             unended: is_given(verify, "unended"),
             wlog: number_if_given(verify, "wlog"),
+            chain: is_given(verify, "chain"),
         })));
     }
     if let Some(state) = matches.subcommand_matches("state") {
