@@ -37,7 +37,7 @@ caller_of submission = submission.caller
 abbrev task_of : Submission → Task
 task_of submission = submission.task
 
-named : (tasks : List Submission) → AllByRecursion SubmissionFits tasks → AreCallers (map caller_of tasks)
+pub named : (tasks : List Submission) → AllByRecursion SubmissionFits tasks → AreCallers (map caller_of tasks)
 named [] fit = tt
 named (s ∷ tasks) fit = (fit.0.0, named tasks fit.1)
 
@@ -57,7 +57,7 @@ pub record Known (site : Site) (text : List ℕ) (bytes : ℕ) (book : Seen) (pr
   pub submitted : length (callers_had preface) ≡ length book.opening.tasks
   pub entries_named : HaveCallers book.history
 
-pub known : (site : Site) (text : List ℕ) (r : Resumed) (preface : Option Preface) → TellsBook site text r preface → Known site text r.bytes r.book preface
+abbrev pub known : (site : Site) (text : List ℕ) (r : Resumed) (preface : Option Preface) → TellsBook site text r preface → Known site text r.bytes r.book preface
 known site text r None (content, holds, goes) =
     let told = told_of site r.version content in
     let head : List (List ℕ) = head_line r.version ∷ start_line content.clock content.slots ∷ [] in
@@ -120,7 +120,7 @@ nothing_before [] ys is = refl
 nothing_before (x ∷ xs) ys is = cc
 
 -- with what the book keeps it is a log of a run
-pub tells : (site : Site) (text : List ℕ) (bytes : ℕ) (book : Seen) (preface : Option Preface) (k : Known site text bytes book preface) → IsBeginning site book.opening →
+abbrev pub tells : (site : Site) (text : List ℕ) (bytes : ℕ) (book : Seen) (preface : Option Preface) (k : Known site text bytes book preface) → IsBeginning site book.opening →
     Run site book.opening book.history book.state → Tells site text k.told
 tells site text bytes book preface k begins run = record {
   holds = k.holds;

@@ -5,3 +5,7 @@ mod Lines
 mod Facts
 mod Stops
 mod Standings
+mod Matching
+mod Chaining
+mod Joining
+mod Stopping

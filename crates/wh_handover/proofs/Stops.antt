@@ -31,7 +31,7 @@ who_made zero agent visits fits = refl
 who_made (suc made) None visits fits = ap (take (suc made)) fits
 who_made (suc made) (Some agent) visits fits = fits
 
-made_fits : (made : ℕ) (task : Task) → TaskFits task → TaskFits (made_of made task)
+pub made_fits : (made : ℕ) (task : Task) → TaskFits task → TaskFits (made_of made task)
 made_fits made task fits = record {
   client = fits.client;
   submitted = fits.submitted;

@@ -7,14 +7,19 @@
 
 mod after;
 mod behind;
+mod chain;
 mod count;
+mod due;
 mod front;
+mod laws;
 mod standing;
 mod stopped;
 mod sum;
 
 pub use after::state_after;
+pub use chain::{LinkFault, Linked, link};
 pub use front::{HandoverFault, front_after, recovered};
+pub use laws::{stopped_joins_keep_tasks, whole_joins_are_one_run};
 pub use standing::{stopped_front, stopped_text};
 pub use sum::sum_of;
 

@@ -39,7 +39,7 @@ fn reached_by(steps: &[u64], agent: Option<u32>) -> u64
 }
 
 /// The first so many of these visits.
-fn first_visits(visits: &Visits, made: usize) -> Visits
+pub(crate) fn first_visits(visits: &Visits, made: usize) -> Visits
     requires within { made ≤ length visits.now }
     ensures { result ≡ take made visits.now }
 {
@@ -51,7 +51,7 @@ fn first_visits(visits: &Visits, made: usize) -> Visits
 }
 
 /// The agent of a task of whose visits so many were made: none without one.
-fn agent_after(made: usize, agent: Option<u32>) -> Option<u32>
+pub(crate) fn agent_after(made: usize, agent: Option<u32>) -> Option<u32>
     ensures { result ≡ agent_after made agent }
 {
     if made == 0 { None } else { agent }
