@@ -85,7 +85,7 @@ pub verify_means : (p t r : Choices) (q : OtherChoices) (rest : List Text) (o : 
 verify_means p t r q rest (Check o) says ends reads = absurd (reads.3 refl)
 verify_means p t r q rest (Replay o) says ends reads = absurd (other_word (codes "verify") (codes "replay") refl reads.0)
 verify_means p t r q rest (Verify o) says ends reads =
-    ((refl, verify_given p t r q rest o says ends (reads.1, reads.2, reads.3)), none_lacks (codes "verify") (λ id. value_of id says.settings) refl refl refl)
+    ((refl, verify_given p t r q rest o says ends (reads.1, reads.2, reads.3, reads.4)), none_lacks (codes "verify") (λ id. value_of id says.settings) refl refl refl)
 verify_means p t r q rest (Live o) says ends reads = absurd (other_word (codes "verify") (codes "live") refl reads.0)
 verify_means p t r q rest (Serve o) says ends reads = absurd (other_word (codes "verify") (codes "serve") refl reads.0)
 verify_means p t r q rest (State o) says ends reads = absurd (other_word (codes "verify") (codes "state") refl reads.0)

@@ -9,6 +9,7 @@ pub mod Openings
 pub mod Replayed
 pub mod Drove
 mod Verdicts
+mod Chaining
 mod Convoyed
 mod Undelivered
 mod Unstated

@@ -9,3 +9,4 @@ pub mod Checks
 pub mod Verifies
 pub mod States
 pub mod Stands
+pub mod Chained

@@ -11,6 +11,7 @@
 //! itself.
 #![tactic(auto)]
 
+mod chained;
 mod convoys;
 mod fleet;
 mod kept;
@@ -25,6 +26,7 @@ mod verdict;
 mod verified;
 mod writing;
 
+pub use chained::{ChainTold, ChainVerdict, verify_chain};
 pub use convoys::{DriveTrouble, serve_convoy};
 pub use fleet::{claim, equip, members, seated};
 pub use kept::{keep_trouble, serve_kept, start_aside};

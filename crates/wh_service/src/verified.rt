@@ -21,7 +21,7 @@ use wh_resume::verify_any;
 const LOG_LIMIT: usize = 268_435_456;
 
 /// The section of the log, as it came.
-fn log_section<R: Read>(lines: &mut Lines<R>, alloc: Global) -> Result<Vec<u8>, Trouble>
+pub(crate) fn log_section<R: Read>(lines: &mut Lines<R>, alloc: Global) -> Result<Vec<u8>, Trouble>
     ensures ok { IfOk result (λ log. Sectioned lines.old lines.new log.items) }
     ensures within { IfOk result (λ log. length log.items ≤ 268435456) }
     ensures fault { IfErr result (λ told. IsWhyNoLog told lines.old lines.new) }
