@@ -1,5 +1,5 @@
 -- What the whole program comes to: from its words and its input to its output and its status.
-use Rattle.std.specs.Prelude.{◌≡◌, ◌≢◌, ◌⊎◌, ◌≤◌, ℕ, Bool, MatchBool, List, [], ◌∷◌, false, IfErr, IfSome, Option, Some, None, is_some, option_map, Result, Ok, Err}
+use Rattle.std.specs.Prelude.{◌≡◌, ◌≢◌, ◌⊎◌, ◌≤◌, ℕ, Bool, MatchBool, List, [], ◌∷◌, false, IfSome, Option, Some, None, cond, true, is_some, option_map, Result, Ok, Err}
 use Rattle.std.specs.declared.alloc.AllocError.{AllocError}
 use Rattle.std.specs.Io.KnownBytes.{Keeps}
 use Rattle.wh_lines.specs.Input.{Input}
@@ -9,6 +9,7 @@ use Rattle.wh_edge.specs.Trouble.{status_of, trouble_text}
 use Rattle.wh_edge.specs.declared.trouble.Status.{Status}
 use Rattle.wh_edge.specs.declared.trouble.Status.TheVariants.{Done, CommandLine, NoMemory}
 use Rattle.wh_edge.specs.declared.trouble.Trouble.{Trouble}
+use Rattle.wh_edge.specs.declared.trouble.Trouble.TheVariants as trouble
 use Rattle.wh_options.specs.Options.{WordsGive}
 use Rattle.wh_options.specs.Requests.{AsksBy, help_flags, version_flags}
 use Rattle.wh_options.specs.Setting.{Text}
@@ -32,6 +33,7 @@ use Rattle.wh_service.specs.declared.convoys.DriveTrouble.TheVariants.{Plain}
 use Rattle.wh_service.specs.Kept.{IsWhyUnkept, ServesKept, Siding}
 use Rattle.wh_service.specs.Plays.{form_of}
 use Rattle.wh_service.specs.Serves.{IsWhyUnserved, IsWhyUnservedByFleet, ServesByFleet}
+use Rattle.wh_service.specs.Stands.{IsWhyUnstood, StatesStand}
 use Rattle.wh_service.specs.States.{IsWhyUnstated, States}
 use Rattle.wh_service.specs.Verifies.{IsWhyUnverified, Verifies}
 use Rattle.wh_service.specs.declared.parts.PlannerParts.{PlannerParts}
@@ -72,6 +74,22 @@ StatedOver o file (Err told) old new had has = IsWhyUnstated o told old new had 
 -- it was so over the file that the options name
 abbrev pub Stated : StateOptions → Result Status Trouble → Input → Input → Option (List ℕ) → Option (List ℕ) → Type 0
 Stated o came old new had has = (file : Option (List ℕ)) × StatedOver o file came old new had has
+
+-- the options of `state`, where the vehicles' stand is asked for
+abbrev pub stand_of : Options → Option StateOptions
+stand_of (State o) = cond o.stand (Some o) None
+stand_of _ = None
+
+-- `state` came to this over files that told these bytes, as the vehicles stand
+abbrev pub StatedOverBoth : StateOptions → (file arrivals : Option (List ℕ)) → Result Status DriveTrouble → Input → Input → Option (List ℕ) → Option (List ℕ) → Type 0
+StatedOverBoth o file arrivals (Ok status) old new had has = StatesStand o old new had has file arrivals status
+StatedOverBoth o file arrivals (Err told) old new had has = IsWhyUnstood o told old new had has file arrivals
+
+-- it was so over the file that the options name, and the file of arrivals beside it; or memory ran out before
+abbrev pub StatedStanding : StateOptions → Result Status DriveTrouble → Input → Input → Option (List ℕ) → Option (List ℕ) → Type 0
+StatedStanding o came old new had has =
+    ((file arrivals : Option (List ℕ)) × StatedOverBoth o file arrivals came old new had has)
+    ⊎ ((came ≡ Err (Plain trouble.NoMemory)) × (new ≡ old) × Keeps had has)
 
 -- `live` came to this. Here and below fits and count say what a planner returns, and gives what makes it.
 abbrev pub Lived : {X : Type 0} → (X → Floor → Bool) → (X → ℕ) → (PlannerParts → Result X AllocError → Type 0) → LiveOptions → Result Status Trouble
@@ -150,6 +168,7 @@ pub record Obeys {X : Type 0} (fits : X → Floor → Bool) (count : X → ℕ) 
   pub options : Options
   pub given : WordsGive words options
   pub plain : pace_of options ≡ None
+  pub exact : stand_of options ≡ None
   pub begins : Begins options (pace_of options)
   pub files : Option Files
   pub named : is_some files ≡ names_file options
@@ -182,6 +201,21 @@ Drove fits count gives o pace (Some files) (Err told) old new had has =
 abbrev pub EndsDrive : Result ℕ DriveTrouble → Status → Option (List ℕ) → Option (List ℕ) → Type 0
 EndsDrive (Ok left) ended had has = (ended ≡ Done) × WritesFront had has (way_text left)
 EndsDrive (Err told) ended had has = (ended ≡ drive_status told) × WritesFront had has (drive_text told)
+
+-- Its status tells what it came to, and a line on standard error tells a trouble, as far as that can be written.
+abbrev pub EndsStand : Result Status DriveTrouble → Status → Option (List ℕ) → Option (List ℕ) → Type 0
+EndsStand (Ok status) ended had has = (ended ≡ status) × Keeps had has
+EndsStand (Err told) ended had has = (ended ≡ drive_status told) × WritesFront had has (drive_text told)
+
+-- The words ask for the state as the vehicles stand, and that was told.
+pub record ObeysStand (words : List Text) (ended : Status) (old new : Input) (had has blamed blames : Option (List ℕ)) : Type 0 where
+  pub options : StateOptions
+  pub given : WordsGive words (State options)
+  pub stand : options.stand ≡ true
+  pub begins : Begins (State options) None
+  pub came : Result Status DriveTrouble
+  pub did : StatedStanding options came old new had has
+  pub ends : EndsStand came ended blamed blames
 
 -- The words give options of a replay with vehicles, and that was done, over the files that they name, or over none.
 pub record ObeysLate {X : Type 0} (fits : X → Floor → Bool) (count : X → ℕ) (gives : PlannerParts → Result X AllocError → Type 0)
@@ -224,4 +258,4 @@ abbrev pub Comes : {X : Type 0} → (X → Floor → Bool) → (X → ℕ) → (
     → (old new : Input) → (had has blamed blames : Option (List ℕ)) → Type 0
 Comes fits count gives guests words ended old new had has blamed blames =
     Obeys fits count gives guests words ended old new had has blamed blames ⊎ ObeysLate fits count gives words ended old new had has blamed blames
-    ⊎ Declines words ended old new had has ⊎ Bars words ended old new had has blamed blames
+    ⊎ ObeysStand words ended old new had has blamed blames ⊎ Declines words ended old new had has ⊎ Bars words ended old new had has blamed blames

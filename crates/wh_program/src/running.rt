@@ -11,7 +11,7 @@ ghost use Rattle.wh_service.specs.Serves.{ended_by};
 use crate::attending::attend_by_name;
 use crate::barring::{Bar, let_begin};
 use crate::driving::{drive_over, end_drive, late};
-use crate::stating::state_by_name;
+use crate::stating::{end_stand, stand_by_name, standing, state_by_name};
 use std::alloc::{AllocError, Global};
 use std::convert::AsStr;
 use std::fmt::Display;
@@ -383,20 +383,26 @@ pub fn run<
                     let came = drive_by_name(files, alloc, lines, output, &replay, pace, make);
                     end_drive(errors, came)
                 }
-                None => {
-                    let mut report = Vec::new(alloc);
-                    let came = obey_by_name(
-                        rt,
-                        files,
-                        alloc,
-                        lines,
-                        output,
-                        &options,
-                        &mut report,
-                        make,
-                    );
-                    end_open(errors, came, report.as_slice())
-                }
+                None => match standing(&options) {
+                    Some(state) => {
+                        let came = stand_by_name(files, alloc, lines, output, &state);
+                        end_stand(errors, came)
+                    }
+                    None => {
+                        let mut report = Vec::new(alloc);
+                        let came = obey_by_name(
+                            rt,
+                            files,
+                            alloc,
+                            lines,
+                            output,
+                            &options,
+                            &mut report,
+                            make,
+                        );
+                        end_open(errors, came, report.as_slice())
+                    }
+                },
             },
             Err(bar) => bar_out(errors, bar),
         },

@@ -26,10 +26,23 @@ returns-in-Some g c =
       ends = c.end_drive.ensures;
     }))
 
+-- the state as the vehicles stand
+pub returns-in-Some-standing : goal.returns-in-Some-standing
+returns-in-Some-standing g c =
+    inr (inr (inl (record {
+      options = c.in-Some-standing.state;
+      given = subst (λ (o : Options). WordsGive (map g.A.AsStr.text c.args.words.now) o) c.in-Some-standing.ensures.0 c.in-Ok.ensures.ok;
+      stand = c.in-Some-standing.ensures.1;
+      begins = subst (λ (o : Options). Begins o (pace_of o)) c.in-Some-standing.ensures.0 c.in-Ok-let_begin.ensures.ok;
+      came = c.stand_by_name-came.result;
+      did = c.stand_by_name-came.ensures;
+      ends = c.end_stand.ensures;
+    })))
+
 -- one that is not begun
 pub returns-in-Ok : goal.returns-in-Ok
 returns-in-Ok g c =
-    inr (inr (inr (record {
+    inr (inr (inr (inr (record {
       options = c.in-Ok.options;
       given = c.in-Ok.ensures.ok;
       why = c.in-Err-let_begin.bar.trouble;
@@ -37,12 +50,12 @@ returns-in-Ok g c =
       unread = refl;
       untold = Keeps-refl _;
       ends = c.bar_out.ensures;
-    })))
+    }))))
 
 pub returns : goal.returns
 returns g c =
-    inr (inr (inl (declines _ _ _ _ _ _ c.decline-came.result _ _ _ _ c.decline-came.ensures.told.0 c.refusal_of.ensures.asked c.refusal_of.ensures.memory c.decline-came.ensures.told.1 c.end.ensures _ _ c.decline-came.ensures.output
-    c.in-Err.ensures.refused c.in-Err.ensures.help c.in-Err.ensures.version)))
+    inr (inr (inr (inl (declines _ _ _ _ _ _ c.decline-came.result _ _ _ _ c.decline-came.ensures.told.0 c.refusal_of.ensures.asked c.refusal_of.ensures.memory c.decline-came.ensures.told.1 c.end.ensures _ _ c.decline-came.ensures.output
+    c.in-Err.ensures.refused c.in-Err.ensures.help c.in-Err.ensures.version))))
 
 pub obey_by_name-came-requires-clause-range : goal.obey_by_name-came-requires-clause-range
 obey_by_name-came-requires-clause-range g c κs within = in_range (map g.A.AsStr.text c.args.words.now) _ c.in-Ok.ensures.ok
