@@ -35,7 +35,7 @@ module _ {X : Type 0} (fits : X → Floor → Bool) (count : X → ℕ) (gives :
   pub starved : {R W : Type 0} (remaining : R → Option (List ℕ)) (contents : W → Option (List ℕ)) (report : List ℕ) → report ≡ [] → (o : Options) →
       (files : Option Files) × (is_some files ≡ names_file o) × Did fits count gives (Attended fits count gives remaining contents) o files (Err trouble.NoMemory) report input input had had
   starved remaining contents report none (Check o) = (None, refl, ((tt, Keeps-refl had), none))
-  starved remaining contents report none (Verify o) = (None, refl, (Keeps-refl had, none))
+  starved remaining contents report none (Verify o) = (None, refl, (whichever o.chain _ _ (Keeps-refl had) (λ off. Keeps-refl had), none))
   starved remaining contents report none (Live o) = (None, refl, (inl (tt, Keeps-refl had), none))
   starved remaining contents report none (Serve o) = (None, refl, ((refl, inl (refl, refl)), none))
   starved remaining contents report none (Replay o) = over o report o.log

@@ -20,6 +20,7 @@ use Rattle.wh_options.specs.declared.chosen.Options.TheVariants.{Check, Replay, 
 use Rattle.wh_options.specs.declared.chosen.ReplayOptions.{ReplayOptions}
 use Rattle.wh_options.specs.declared.chosen.ServeOptions.{ServeOptions}
 use Rattle.wh_options.specs.declared.chosen.StateOptions.{StateOptions}
+use Rattle.wh_service.specs.Chained.{Chains, IsWhyUnchained}
 use Rattle.wh_service.specs.Checks.{IsWhyUnjudged, Judges}
 use Rattle.wh_live.specs.Hosts.{HostsTo, IsWhyUnhosted}
 use Rattle.wh_options.specs.declared.chosen.VehicleOptions.{VehicleOptions}
@@ -61,10 +62,19 @@ abbrev pub Checked : CheckOptions → Result Status Trouble → Input → Input 
 Checked o (Ok status) old new had has = Judges o.homes old new had has status
 Checked o (Err told) old new had has = IsWhyUnjudged o.homes told old new had has
 
--- `verify` came to this
+-- `verify` over one log came to this
+abbrev pub VerifiedLog : VerifyOptions → Result Status Trouble → Input → Input → Option (List ℕ) → Option (List ℕ) → Type 0
+VerifiedLog o (Ok status) old new had has = Verifies o old new had has status
+VerifiedLog o (Err told) old new had has = IsWhyUnverified o told old new had has
+
+-- `verify` over the logs of a chain came to this
+abbrev pub VerifiedChain : VerifyOptions → Result Status Trouble → Input → Input → Option (List ℕ) → Option (List ℕ) → Type 0
+VerifiedChain o (Ok status) old new had has = Chains o old new had has status
+VerifiedChain o (Err told) old new had has = IsWhyUnchained o told old new had has
+
+-- `verify` came to this: over a chain where the options say so, else over one log
 abbrev pub Verified : VerifyOptions → Result Status Trouble → Input → Input → Option (List ℕ) → Option (List ℕ) → Type 0
-Verified o (Ok status) old new had has = Verifies o old new had has status
-Verified o (Err told) old new had has = IsWhyUnverified o told old new had has
+Verified o came old new had has = MatchBool o.chain (VerifiedChain o came old new had has) (VerifiedLog o came old new had has)
 
 -- `state` over a file that told this came to this
 abbrev pub StatedOver : StateOptions → (file : Option (List ℕ)) → Result Status Trouble → Input → Input → Option (List ℕ) → Option (List ℕ) → Type 0

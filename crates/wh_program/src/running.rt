@@ -189,6 +189,9 @@ fn obey<
 {
     match options {
         Options::Check(options) => wh_service::check(rt, alloc, lines, output, *options),
+        Options::Verify(options) if options.chain => {
+            wh_service::verify_chain(alloc, lines, output, *options)
+        }
         Options::Verify(options) => wh_service::verify(alloc, lines, output, *options),
         Options::Replay(options) => replay(alloc, lines, output, options, kept, report, make),
         Options::Live(options) => live(rt, alloc, lines, output, options, make),
