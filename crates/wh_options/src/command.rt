@@ -369,7 +369,8 @@ fn verify_command<'a>(alloc: Global) -> Result<Command<'a>, AllocError>
     let command = with_switch(alloc, command, "unended", help)?;
     let help = "Takes logs of version 3 too, which begin with a state";
     let command = with_number(alloc, command, "wlog", FRONT_VERSION, FRONT_VERSION, help)?;
-    let help = "Takes logs of any version, separated by `%%`, each of which goes on from the one before";
+    let help =
+        "Takes logs of any version, separated by `%%`, each of which goes on from the one before";
     with_switch(alloc, command, "chain", help)
 }
 
