@@ -121,7 +121,7 @@ returns-in-Some-subcommand_matches-3-clause-read c = λ name rows e.
       c.homes.ensures ∙ ap homes_of (same (codes "ends")),
       c.is_given.ensures ∙ ap is_some (same (codes "unended")),
       subst (λ text. MayRead text c.number_if_given.result) (same (codes "wlog")) c.number_if_given.ensures,
-      c.is_given-2.ensures ∙ ap is_some (same (codes "chain")),
+      c.is_given-in-Some-subcommand_matches-3.ensures ∙ ap is_some (same (codes "chain")),
     )
 
 pub returns-in-Some-subcommand_matches-4-clause-read : goal.returns-in-Some-subcommand_matches-4-clause-read
