@@ -267,7 +267,7 @@ def test_keys_at_every_byte() -> None:
 
 def test_keys_that_cannot_be_read_or_written() -> None:
     for text, words in (('{"key": "a"}\n', 'line 1: `{"key": "a"}` is no line of a list of keys'), ('noise\n', 'line 1: `noise` is no line'),
-                        ('{"book":1,"name":"x"}\n{"key":"a","made":1}\n', 'line 2: '), ('{"book":1,"name":"x"}\n{"run":2}\n', 'line 2: '),
+                        ('{"book":1,"name":"x"}\n{"key":"a","made":1}\n', 'line 2: '), ('{"book":1,"name":"x"}\n{"run":2}\n', 'line 2: '), ('{"book":1,"name":"x"}\n{"run":2,"out":{"1":[[0]]},"carried":{}}\n', 'line 2: '),
                         ('{"book":2,"name":"x"}\n', 'line 1: '), ('{"book":1,"name":"x"}\n{"book":1,"name":"x"}\n', 'line 2: ')):
         try:
             Book(file('keys.bad', text))

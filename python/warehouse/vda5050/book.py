@@ -60,9 +60,12 @@ class Opening:
         return {cell for cells in self.out.values() for cell in cells}
 
 
-def opening_of(row: Json) -> Opening:
-    """How a run begins, by its line."""
-    return Opening(row['run'], {int(agent): [(cell[0], cell[1]) for cell in cells] for agent, cells in row['out'].items()}, row['carried'])
+def opening_of(row: Json) -> Opening | None:
+    """How a run begins, by its line; None where the line is none."""
+    try:
+        return Opening(row['run'], {int(agent): [(int(x), int(y)) for x, y in cells] for agent, cells in row['out'].items()}, dict(row['carried']))
+    except (AttributeError, KeyError, TypeError, ValueError):
+        return None
 
 
 class Book:
@@ -95,7 +98,9 @@ class Book:
         except ValueError:
             row = None
         kind = next((kind for kind, rule in LINES.items() if isinstance(row, dict) and not fault_in(rule, row)), '')
-        if not kind or (kind == 'name') != (number == 1) or (kind == 'made' and row['key'] not in self.transports):
+        opening = opening_of(row) if kind == 'run' else None
+        if not kind or (kind == 'name') != (number == 1) or (kind == 'made' and row['key'] not in self.transports) or (
+                kind == 'run' and opening is None):
             raise Fault(f'`{line[:60].decode("latin-1")}` is no line of a list of keys here', self.path, number)
         match kind:
             case 'name':
@@ -105,7 +110,7 @@ class Book:
             case 'made':
                 self.transports[row['key']].made = row['made']
             case 'run':
-                self.opening = opening_of(row)
+                self.opening = opening or self.opening
 
     def write(self, rows: list[Json]) -> None:
         """Appends lines, and syncs them. Raises Fault where that fails; then none of them stands."""

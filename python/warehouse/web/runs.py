@@ -84,6 +84,6 @@ class Runs:
         if lines is None:    # another list
             self.keys, self.opening, lines = Tail(self.keys.path), Opening(), []
         for line in lines:
-            if line.startswith(b'{"run":'):
-                self.opening = opening_of(json.loads(line))
+            if line.startswith(b'{"run":') and (opening := opening_of(json.loads(line))):
+                self.opening = opening
                 yield self.follower()
