@@ -10,16 +10,13 @@ here: a line for each that begins with no exact state, and how many entries all 
 line of a later log's front is changed: the log before, a count, the state's kind, a client; it is told by number of its log and line, or not, where
 it is edited. Of logs left out or in another order the first is told that does not go on.
 """
-import argparse
 import collections
 import os
 import random
-import subprocess
-import sys
-import tempfile
 
+import seeded
 from ends import CROSSING
-from lives import PROGRAM, Wrong, demand, read_file, write_file
+from lives import demand, read_file, write_file
 from stand import RULE, Stage, cut, shift
 
 
@@ -136,28 +133,5 @@ def run(chance: random.Random, program: str, folder: str, seen: collections.Coun
     seen['chains'] += 1
 
 
-def main() -> None:
-    parser = argparse.ArgumentParser(description=__doc__, formatter_class=argparse.RawDescriptionHelpFormatter)
-    parser.add_argument('chains', type=int, nargs='?', default=3)
-    parser.add_argument('--seed', type=int, default=1)
-    parser.add_argument('--program', default=PROGRAM)
-    options = parser.parse_args()
-    seen: collections.Counter = collections.Counter()
-    passed = failed = 0
-    for seed in range(options.chains):
-        chance = random.Random(options.seed * 1_000_003 + seed)
-        with tempfile.TemporaryDirectory() as folder:
-            try:
-                run(chance, options.program, folder, seen)
-                passed += 1
-            except (Wrong, OSError, ValueError, subprocess.SubprocessError) as wrong:
-                failed += 1
-                print(f'chain {seed} of seed {options.seed}: {str(wrong)[:1500]}')
-    for name in sorted(seen):
-        print(f'{name}: {seen[name]}')
-    print(f'{passed} passed, {failed} failed')
-    sys.exit(failed != 0)
-
-
 if __name__ == '__main__':
-    main()
+    seeded.main(__doc__, run)

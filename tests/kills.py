@@ -17,7 +17,6 @@ its end line where the script's `close` was served). At the end of a run the fil
 `verify` says how many entries it has. The program is that of WAREHOUSE, else the one of crates/warehouse. A signal leaves
 what was written, synced or not: whether it was synced is for tests/order.py.
 """
-import argparse
 import collections
 import os
 import random
@@ -27,7 +26,8 @@ import sys
 import tempfile
 import time
 
-from lives import PROGRAM, ROOT, Life, Whole, Wrong, demand, go_on, judge, read_file
+import seeded
+from lives import ROOT, Life, Whole, demand, go_on, judge, read_file
 
 WAYS = ['one', 'batch', 'all', 'pieces']
 
@@ -203,32 +203,22 @@ def note(seen: collections.Counter, end: str, life: Life, text: bytes, kept: int
 
 
 def main() -> None:
-    parser = argparse.ArgumentParser(description=__doc__, formatter_class=argparse.RawDescriptionHelpFormatter)
-    parser.add_argument('kills', type=int, nargs='?', default=50)
-    parser.add_argument('--seed', type=int, default=1)
-    parser.add_argument('--program', default=PROGRAM)
+    parser = seeded.parser_of(__doc__, 'kills', 50)
     parser.add_argument('--made', action='store_true', help='made instances alone, since examples/shelves takes an unproved program long')
     options = parser.parse_args()
-    seen: collections.Counter = collections.Counter()
-    passed = failed = seed = 0
+    runs = seeded.Runs(options.seed)
     with tempfile.TemporaryDirectory() as scratch:
         file = os.path.join(scratch, 'log')
-        while seen['killed'] < options.kills:
-            seed += 1
-            chance = random.Random(options.seed * 1_000_003 + seed)
-            try:
-                whole = make(chance, options.program, options.made)
-                run(chance, whole, file, min(options.kills - seen['killed'], chance.randint(3, 25)), seen)
-                passed += 1
-            except (Wrong, OSError, ValueError, subprocess.SubprocessError) as wrong:
-                failed += 1
-                print(f'run {seed} of seed {options.seed}: {str(wrong)[:300]}')
-                if failed == 10:
-                    break
-    for name in sorted(seen):
-        print(f'{name}: {seen[name]}')
-    print(f'{passed} passed, {failed} failed')
-    sys.exit(failed != 0)
+
+        def one(chance: random.Random) -> None:
+            whole = make(chance, options.program, options.made)
+            run(chance, whole, file, min(options.kills - runs.seen['killed'], chance.randint(3, 25)), runs.seen)
+
+        number = 0
+        while runs.seen['killed'] < options.kills and runs.failed < 10:
+            number += 1
+            runs.attempt(number, one)
+    runs.end()
 
 
 if __name__ == '__main__':

@@ -11,17 +11,14 @@ sum, which are those of its text up to that entry; told again it is the same, an
 script comes to its end. Then the replies were those of the uncut run, each log has its entries, the last ledger is its ledger, and the last
 state is its state, but for the log before: byte for byte. Where the program's help has no `state` all is skipped.
 """
-import argparse
 import collections
 import hashlib
 import os
 import random
-import subprocess
-import sys
-import tempfile
 
+import seeded
 from kills import Moment, live, make, starting
-from lives import PROGRAM, Life, Whole, Wrong, demand, go_on, judge, read_file, write_file
+from lives import Life, Whole, demand, go_on, judge, read_file, write_file
 
 
 class Later(Whole):
@@ -129,31 +126,9 @@ def run(chance: random.Random, whole: Whole, folder: str, seen: collections.Coun
     seen['entries'] += count
 
 
-def main() -> None:
-    parser = argparse.ArgumentParser(description=__doc__, formatter_class=argparse.RawDescriptionHelpFormatter)
-    parser.add_argument('runs', type=int, nargs='?', default=3)
-    parser.add_argument('--seed', type=int, default=1)
-    parser.add_argument('--program', default=PROGRAM)
-    options = parser.parse_args()
-    if '\n  state ' not in subprocess.run([options.program, '--help'], capture_output=True, text=True, check=False).stdout:
-        print('the program has no subcommand `state`\n0 passed, 0 failed, 1 skipped')
-        return
-    seen: collections.Counter = collections.Counter()
-    passed = failed = 0
-    for seed in range(options.runs):
-        chance = random.Random(options.seed * 1_000_003 + seed)
-        with tempfile.TemporaryDirectory() as folder:
-            try:
-                run(chance, make(chance, options.program, True), folder, seen)
-                passed += 1
-            except (Wrong, OSError, ValueError, subprocess.SubprocessError) as wrong:
-                failed += 1
-                print(f'run {seed} of seed {options.seed}: {str(wrong)[:300]}')
-    for name in sorted(seen):
-        print(f'{name}: {seen[name]}')
-    print(f'{passed} passed, {failed} failed')
-    sys.exit(failed != 0)
+def shift(chance: random.Random, program: str, folder: str, seen: collections.Counter) -> None:
+    run(chance, make(chance, program, True), folder, seen)
 
 
 if __name__ == '__main__':
-    main()
+    seeded.main(__doc__, shift)

@@ -10,17 +10,16 @@ out from the two alone, and changes neither. `replay --log` goes on from there w
 stopped in the same way, and the next one ends with all delivered. Each of the three verifies. Of a file of arrivals that is missing, of another
 front, with a bad line or a step too far the same is told as by `replay --vehicles`.
 """
-import argparse
 import collections
 import hashlib
 import os
 import random
 import subprocess
 import sys
-import tempfile
 
+import seeded
 from ends import CROSSING
-from lives import PROGRAM, ROOT, Wrong, demand, read_file, write_file
+from lives import ROOT, demand, read_file, write_file
 
 RULE = 'rule nofollow\n'
 
@@ -227,28 +226,5 @@ def run(chance: random.Random, program: str, folder: str, seen: collections.Coun
     seen['runs'] += 1
 
 
-def main() -> None:
-    parser = argparse.ArgumentParser(description=__doc__, formatter_class=argparse.RawDescriptionHelpFormatter)
-    parser.add_argument('runs', type=int, nargs='?', default=3)
-    parser.add_argument('--seed', type=int, default=1)
-    parser.add_argument('--program', default=PROGRAM)
-    options = parser.parse_args()
-    seen: collections.Counter = collections.Counter()
-    passed = failed = 0
-    for seed in range(options.runs):
-        chance = random.Random(options.seed * 1_000_003 + seed)
-        with tempfile.TemporaryDirectory() as folder:
-            try:
-                run(chance, options.program, folder, seen)
-                passed += 1
-            except (Wrong, OSError, ValueError, subprocess.SubprocessError) as wrong:
-                failed += 1
-                print(f'run {seed} of seed {options.seed}: {str(wrong)[:1500]}')
-    for name in sorted(seen):
-        print(f'{name}: {seen[name]}')
-    print(f'{passed} passed, {failed} failed')
-    sys.exit(failed != 0)
-
-
 if __name__ == '__main__':
-    main()
+    seeded.main(__doc__, run)
