@@ -22,7 +22,7 @@ from warehouse.convert.tables import paths_text    # noqa: E402
 from warehouse.fleet import ask_nearest    # noqa: E402
 from warehouse.replies import reply_of    # noqa: E402
 from warehouse.simulate.judge import Whereabouts    # noqa: E402
-from warehouse.texts import Order, read_log, standing    # noqa: E402
+from warehouse.texts import Order, read_log    # noqa: E402
 from warehouse.vda5050.layout import Layout    # noqa: E402
 from warehouse.vda5050.orders import Writer    # noqa: E402
 from warehouse.vda5050.plan import Plan    # noqa: E402
@@ -257,7 +257,7 @@ def cells(text: str) -> tuple[tuple[int, int], ...]:
 
 def made_plan(made: list[int]) -> Plan:
     stops = [[(1, 0), (3, 0)], [(3, 2), (1, 2)]]
-    plan = Plan(standing(read_instance('i', ONE.encode())), lambda task: stops[task], lambda task: made[task])
+    plan = Plan([(0, 1)], lambda task: stops[task], lambda task: made[task])
     plan.hear(0, 'token 0', Took(0, cells(HOME), 10))
     return plan
 

@@ -424,30 +424,27 @@ def test_a_log_that_is_cut_or_replaced() -> None:
 
 
 def test_the_page_goes_on_with_the_next_run() -> None:
-    """Agent 1 is lost, at D or at B: in run 2 these and the agent are on islands, and agent 0 stands at 1,1 between two points; then agent 1
-    is back."""
+    """Agent 1 is lost at D: run 2 begins with agent 0 where it stands, at 1,1 between two points, and without B; then agent 1 is back."""
     log = new(''.join(LINES[:8]))
     base = os.path.basename(log)
-    file(base + '.keys', '{"book":1,"name":"00000000"}\n{"key":"k","run":1,"task":0,"client":"x","stops":["A","B"]}\n')
-    front = f'wlog 3\nafter 1 9 {"0" * 64}\nstate 2 open edited\nentries 62:6\nagents 2\nagent slots 4 path 1,1\nagent slots 4 path {{}}\ntasks 1\n' \
-            'task 62 y 0 agent 1 visits 2 stops {} 1,2\nbegin\n'
+    file(base + '.keys', '{"book":1,"name":"00000000"}\n{"key":"k","run":1,"task":0,"client":"x","stops":["A","B"],"first":0}\n')
     with served(log) as server:
         listener = Page(server)
         kind, run, _ = listener.event()
         same((kind, run['title'], run['clock'], get(server, '/health')[0]), ('run', 'deliveries', 2, 200))
-        file(base + '.2', front.format('4,4', '2,4') + '62 submit x A C = accepted 1\n')
-        append(log + '.keys', '{"run":2,"out":{"1":[[3,0],[3,2]]},"carried":{"k":1}}\n')
+        file(base + '.2', ''.join(LINES[:2]) + '0 submit x A C = accepted 0\n')
+        append(log + '.keys', '{"run":2,"cells":[[1,1],[3,2]],"blocked":[[3,0]],"out":[1],"carried":{}}\n')
         kind, run, _ = listener.event()
         while kind != 'run' or run['entries'] != 1:
             kind, run, _ = listener.event()
         same((run['title'], [point[1:] for point in run['points']], [way[0][1:3] for way in run['ways']], [task[0] for task in run['tasks']]),
-             ('deliveries, run 2', [['P0', 0, 1], ['P1', 4, 1], ['A', 1, 0], ['B', 0, 4], ['C', 1, 2], ['D', 2, 4], ['out-1', 4, 4]], [[1, 1], [4, 4]], ['y', 'x']))
+             ('deliveries, run 2', [['P0', 0, 1], ['P1', 4, 1], ['A', 1, 0], ['C', 1, 2], ['D', 3, 2], ['at-0', 1, 1]], [[1, 1], [3, 2]], ['x']))
         same(get(server, '/health'), (503, '{"alarms": ["vehicle 1 is out of use"]}\n'))
-        append(log + '.2', '62 token 0 = took 1 path 1,1 1,0 1,1 1,2\n')    # what is new is of this run
-        same(listener.news()[0]['ways'], [[0, [2, 1, 1, 1, -1, 'UDD']]])
-        append(log + '.keys', '{"run":3,"out":{},"carried":{}}\n')
+        append(log + '.2', '0 token 0 = took 0 path 1,1 1,0 1,1 1,2\n')    # what is new is of this run
+        same(listener.news()[0]['ways'], [[0, [0, 1, 1, 0, -1, 'UDD']]])
+        append(log + '.keys', '{"run":3,"cells":[[1,1],[3,2]],"blocked":[],"out":[],"carried":{}}\n')
         until(lambda: f'there is no log {log}.3' in get(server, '/health')[1])
-        file(base + '.3', front.format('3,1', '3,2'))
+        file(base + '.3', ''.join(LINES[:2]))
         until(lambda: get(server, '/health')[0] == 200)
         listener.close()
     with served(log) as server:    # one that begins now has the last of them

@@ -20,7 +20,7 @@ from unittest import mock
 tempfile.tempdir = '/dev/shm' if os.access('/dev/shm', os.W_OK) else None
 
 import counting    # noqa: E402
-from tools_drive import PROGRAM, ROOT, SCRATCH, TWO, file, has, same, text_of, tool, warehouse    # noqa: E402
+from tools_drive import PROGRAM, ROOT, SCRATCH, TWO, file, has, same, text_of, tool    # noqa: E402
 
 sys.path.insert(0, os.path.join(ROOT, 'python'))
 sys.dont_write_bytecode = True
@@ -29,12 +29,11 @@ from warehouse import Fault, read_instance, read_orders    # noqa: E402
 from warehouse.vda5050 import handover, loop, simulated    # noqa: E402
 from warehouse.process import CoreDied, NoProgram    # noqa: E402
 from warehouse.vda5050.adapter import may_begin_later    # noqa: E402
-from warehouse.vda5050.book import Book, Opening    # noqa: E402
+from warehouse.vda5050.book import Opening    # noqa: E402
 from warehouse.vda5050.broker import CONNECTED, Message    # noqa: E402
-from warehouse.vda5050.dispatch import Dispatch    # noqa: E402
 from warehouse.vda5050.layout import cell_of    # noqa: E402
 from warehouse.vda5050.loop import stamp    # noqa: E402
-from warehouse.vda5050.opening import Program, instance_of    # noqa: E402
+from warehouse.vda5050.opening import instance_of    # noqa: E402
 from vda5050_floor import Floor, HEAD, SHEET, STATE    # noqa: E402
 
 
@@ -381,8 +380,8 @@ def quick():
 def test_a_lost_vehicle_and_its_return() -> None:
     """All halt, and the others deliver what they can; what it carries waits for it; once it is back it is delivered, once."""
     with quick():
-        for kill, ends in ((False, 'stops'), (True, 'stops'), (True, 'homes')):
-            floor, keys = busy_floor(f'lost-{kill}-{ends}', out_after=0.3, silent=0.4, pace=0.01, ends=ends)
+        for kill in (False, True):
+            floor, keys = busy_floor(f'lost-{kill}', out_after=0.3, silent=0.4, pace=0.01)
             floor.until(lambda: any(vehicle.world.loads for vehicle in floor.vehicles), 30)
             lost = next(vehicle for vehicle in floor.vehicles if vehicle.world.loads)
             load, agent = lost.world.loads[0], int(lost.options.serial[1:])
@@ -390,23 +389,21 @@ def test_a_lost_vehicle_and_its_return() -> None:
             lost.broker.up = False
             floor.bus.publish('uagv/v2/torchdaisy/' + lost.options.serial + '/connection', json.dumps(HEAD | {'connectionState': 'CONNECTIONBROKEN'}), True)
             floor.until(lambda: floor.adapter.book.opening.number == 2, 30)
-            opening = floor.adapter.book.opening
-            same((list(opening.out), opening.carried.get(load)), ([agent], agent))
+            same((floor.adapter.book.opening.out, floor.adapter.book.opening.carried.get(load)), ([agent], agent))
             if kill:
                 floor.kill_adapter()
-            # everything but what it carries, and what stops where it may be
-            stuck = {key for key in keys if key == load or key in opening.carried
-                     or any(floor.instance.cell_of(stop) in opening.barred for stop in floor.adapter.book.transports[key].stops)}
+            blocked = floor.adapter.book.opening.blocked
+            # everything but what it carries, and what stops where it may be, or where it rests
+            stuck = {key for key in keys if key == load or floor.adapter.book.transports[key].run != 2
+                     or any(floor.instance.cell_of(stop) in [*blocked, floor.adapter.book.opening.cells[agent]] for stop in floor.adapter.book.transports[key].stops)}
             floor.until(lambda: floor.delivered(*(key for key in keys if key not in stuck)), 40)
             assert load in stuck and len(stuck) < 12 and not floor.delivered(load), stuck
-            numbers = {key: floor.adapter.book.transports[key].task for key in keys}
             lost.broker.up = True
             floor.bus.publish('uagv/v2/torchdaisy/' + lost.options.serial + '/connection', json.dumps(HEAD | {'connectionState': 'ONLINE'}), True)
             floor.vehicles.insert(agent, lost)
             floor.until(lambda: floor.adapter.book.opening.number >= 3, 30)
-            same(floor.adapter.book.opening.out, {})
+            same(floor.adapter.book.opening.out, [])
             floor.until(lambda: floor.delivered(*keys), 40)
-            same((floor.adapter.plan.agent_of[numbers[load]], {key: floor.adapter.book.transports[key].task for key in keys}), (agent, numbers))
             has(floor.said.getvalue(), f'vda5050: all vehicles halt, for v{agent}', f'run 2 begins; out of use: v{agent};', 'run 3 begins; out of use: none; 0 cells blocked')
             once_each(floor, keys)
 
@@ -431,15 +428,15 @@ def test_one_that_stands_between_nodes_goes_to_the_next_first() -> None:
             floor.until(lambda: floor.adapter.book.opening.number == 2, 30)
             opening = floor.adapter.book.opening
             if is_out:
-                assert cell_of(toward) in opening.barred, (toward, opening)
+                assert cell_of(toward) in opening.blocked, (toward, opening)
             else:
-                assert floor.adapter.fleet.place(between) != cell_of(stood), (stood, toward, opening)
+                assert opening.cells[between] != cell_of(stood), (stood, toward, opening)
             floor.bus.lines.remove(lost.broker)
             lost.world.trace.close()
             floor.vehicles[gone] = floor.vehicle(gone)    # back, with no order
             floor.until(lambda: floor.adapter.book.opening.number == 3, 30)
             if is_out:
-                same(floor.adapter.began.paths[between][0].cells, [cell_of(toward)])
+                same(floor.adapter.book.opening.cells[between], cell_of(toward))
             floor.until(lambda: floor.delivered(*keys), 60)
             once_each(floor, keys)
 
@@ -464,75 +461,8 @@ def test_what_a_lost_vehicle_did_meanwhile_is_known_when_it_is_back() -> None:
         same([one.key for one in floor.adapter.book.left()], ['w'])
         vehicle.broker.up = True
         floor.until(lambda: floor.adapter.book.opening.number == 3 and floor.delivered('k', 'w'), 30)
-        same([order.line for order in floor.adapter.fleet.tasks], ['submit vda5050 A C', 'submit vda5050 D C'])
+        same([order.line for order in floor.adapter.fleet.tasks], ['submit vda5050 D C'])
         once_each(floor, ['k', 'w'])
-
-
-class Killed(BaseException):
-    """As signal 9: nothing in the adapter catches it."""
-
-
-def test_kills_within_a_hand_over() -> None:
-    """The adapter is killed before and behind each thing that is written, when a vehicle is lost and when it is back; the program as it
-    writes the state, and as it judges it. What stands on disk decides, and no order is lost, or delivered twice."""
-    places = [('state', Program, 'state'), ('log', os, 'replace'), ('list', Book, 'begin_run'), ('list-2', Book, 'begin_run'), ('core', Dispatch, '__init__')]
-    for number, (name, where, what) in enumerate(places):
-        with quick():
-            mark = os.path.join(SCRATCH.name, f'killed-{name}')
-            program = file(f'core-{name}', f'#!/bin/sh\ncase "$1" in state|verify) [ -e {mark}-$1 ] || {{ touch {mark}-$1; kill -9 $$; }};; esac\nexec {PROGRAM} "$@"\n')
-            os.chmod(program, 0o700)
-            floor, keys = busy_floor(f'within-{name}', 8, out_after=0.3, silent=0.4, pace=0.01, program=program, ends=('stops', 'homes')[number % 2])
-            real, kills = getattr(where, what), []
-
-            def killed(*words: object, **named: object) -> object:
-                if len(kills) == 2 * (floor.adapter.book.opening.number // 2 + 1) or what == '__init__' and not floor.adapter.handover.wanted:
-                    return real(*words, **named)
-                kills.append(name)
-                if name in ('log', 'list-2') and len(kills) % 2:
-                    real(*words, **named)
-                raise Killed
-            floor.until(lambda: any(vehicle.world.loads for vehicle in floor.vehicles), 30)
-            agent = next(agent for agent, vehicle in enumerate(floor.vehicles) if vehicle.world.loads)
-            lost = floor.vehicles[agent]
-            lost.broker.up = False
-            turn, lost.turn = lost.turn, lambda: None
-            with mock.patch.object(where, what, killed), mock.patch.object(loop, 'LONGEST_PAUSE', 0.1):
-                for run in (2, 3):
-                    while floor.adapter.book.opening.number < run or not floor.adapter.is_open:
-                        try:
-                            floor.until(lambda: floor.adapter.book.opening.number == run and floor.adapter.is_open, 30)
-                        except Killed:
-                            with mock.patch.object(where, what, real):
-                                floor.kill_adapter()
-                    if run == 2:
-                        lost.broker.up, lost.turn = True, turn
-            same((len(kills) >= 3, os.path.exists(mark + '-state'), os.path.exists(mark + '-verify')), (True, True, True))
-            floor.until(lambda: floor.delivered(*keys), 60)
-            same(sorted(floor.adapter.book.by_task), list(range(len(keys))))
-            once_each(floor, keys)
-
-
-def test_one_that_stands_where_the_plan_does_not_have_it() -> None:
-    """It was moved by hand, with its load: the run goes on from there, over the same floor, and the chain of both logs is one."""
-    with quick():
-        floor = Floor('astray', TWO, out_after=0.3, pace=0.05)
-        floor.order('k', 'A', 'B')
-        floor.order('l', 'D', 'C')
-        world = floor.vehicles[0].world
-        floor.until(lambda: bool(world.loads))
-        world.note('in', '1_2')
-        for cell in filter(None, (world.cell, world.toward)):
-            world.note('out', cell)
-        world.cell, world.toward = '1_2', ''
-        world.keep()
-        floor.kill_vehicle(0)
-        floor.until(lambda: floor.adapter.book.opening.number == 2 and floor.delivered('k', 'l'), 30)
-        once_each(floor, ['k', 'l'])
-        logs = []
-        for number in (1, 2):
-            with open(floor.settings.log_of(number), encoding='latin-1') as log:
-                logs.append(log.read().rpartition('\n')[0] + '\n')
-        has(warehouse(floor.instance.text.decode() + '%%\n'.join(logs), 'verify', '--chain', '--unended'), 'edited 2\nrun ')
 
 
 def test_out_and_back_by_command() -> None:
@@ -541,22 +471,22 @@ def test_out_and_back_by_command() -> None:
         floor.until(lambda: len(floor.answers) == len(keys), 30)
         floor.desk.publish('warehouse/command', '{"command": "out", "vehicle": "v2"}')
         floor.until(lambda: floor.adapter.book.opening.number == 2, 30)
-        same((list(floor.adapter.book.opening.out), floor.adapter.alarms.get('v2', 'is out of use')), ([2], 'is out of use'))
+        same((floor.adapter.book.opening.out, floor.adapter.alarms.get('v2', 'is out of use')), ([2], 'is out of use'))
         floor.desk.publish('warehouse/command', '{"command": "back", "vehicle": "v2"}')
         floor.until(lambda: floor.adapter.book.opening.number == 3, 30)
         floor.until(lambda: floor.delivered(*keys), 40)
         once_each(floor, keys)
 
 
-def test_the_floor_of_a_run_that_goes_on() -> None:
+def test_the_instance_of_an_opening() -> None:
     base = read_instance('i', TWO.encode()).with_nofollow()
     same(instance_of(base, Opening()), base)
-    # agent 1 may be in the corridor, or at B: that is on an island then, and so is the agent
-    made = instance_of(base, Opening(2, {1: [(3, 1), (3, 0)]}, {}))
-    same((made.rows, made.nofollow), (['@.@@@', '...@.', '@.@.@', '@@@@@', '.@.@@'], True))
-    same([(point.kind, point.name, point.cell) for point in made.points], [('parking', 'P0', (0, 1)), ('parking', 'P1', (4, 1)), ('station', 'A', (1, 0)),
-                                                                          ('station', 'B', (0, 4)), ('station', 'C', (1, 2)), ('station', 'D', (3, 2)), ('station', 'out-1', (2, 4))])
-    same([made.points[start].name for start in made.starts], ['P0', 'P1'])
+    # agent 0 stands at P0 with a load, agent 1 between two cells of the corridor, of which one is blocked
+    made = instance_of(base, Opening(2, [(0, 1), (2, 1)], [(3, 1), (3, 0)], [1], {'k': 0, 'l': 1}))
+    same((made.rows, made.nofollow), (['@.@@@', '...@.', '@.@.@'], True))
+    same([(point.kind, point.name, point.cell) for point in made.points], [('station', 'P0', (0, 1)), ('parking', 'P1', (4, 1)), ('station', 'A', (1, 0)),
+                                                                          ('station', 'C', (1, 2)), ('station', 'D', (3, 2)), ('station', 'at-1', (2, 1))])
+    same([made.points[start].name for start in made.starts], ['P0', 'at-1'])
 
 
 if __name__ == '__main__':

@@ -9,8 +9,9 @@ The floor is a packing floor of `make-instance --layout kiva`, and paths end at 
 mosquitto and paho-mqtt are installed they talk over a broker of their own, at a free port of 127.0.0.1; else over pipes, which it says.
 
 From second --lost on the first vehicle with a load is lost: its process is killed, and after --gone seconds it is started again. Its cell
-and its load stay as they are. After 3 seconds all halt, and the run continues in another log, from the state in which they stand, without its
-cells (`vda5050 --out-after 3`); so again when it is back. Its load waits for it, the others deliver meanwhile.
+and its load stay as they are. Nobody plans around it, which `--ends homes` cannot: vehicles that are to pass its cells after it
+wait, and once it is 24 steps behind so does the clock. With --around paths end at stops; after 3 seconds all halt, and another run begins
+where they stand, without its cells (`vda5050 --out-after 3`); so again when it is back.
 
 It ends when all orders are delivered, after --seconds, by Ctrl-C or by signal 15 or 1, and leaves no process, no folder and no pipe.
 Before that it judges the vehicles' traces, which know no plan, and has the program judge the log (`verify`).
@@ -43,9 +44,8 @@ from ..web.tail import Tail
 from . import make_instance
 
 FLOOR = ('--layout', 'kiva', '--columns', '42', '--rows', '30', '--every', '2', '--nofollow')
-PACKING = 3             # stations where orders end
+FEW, MANY = 3, 12       # packing stations: where paths end at stops, each serves one order at a time
 BEHIND, AHEAD = 24, 4   # of the adapter, and of the page
-OUT_AFTER = 3           # seconds after which the others go on without one that is lost
 TOLD = 10.0             # seconds between two lines of figures
 BEGINNING = 60.0        # and until all parts are there
 LOOK = 0.1
@@ -64,6 +64,7 @@ def add_options(parser: argparse.ArgumentParser) -> None:
     add('--gone', type=float, default=20.0, metavar='S', help='how long it is gone (%(default)s)')
     add('--seed', type=int, default=7, help='of the floor and its orders (%(default)s)')
     add('--port', type=int, default=0, metavar='N', help='of the page at 127.0.0.1; 0: any that is free')
+    add('--around', action='store_true', help='paths end at stops, and the others plan around the vehicle that is gone')
     add('--pipes', action='store_true', help='messages go over pipes also where a broker is installed')
     add('--no-browser', action='store_true', help='open none')
     add('--keep', metavar='FOLDER', help='a new folder in which all files stay')
@@ -83,7 +84,7 @@ def write_floor(options: argparse.Namespace, folder: str) -> Instance:
     """The instance `floor`, and its orders as the feed's table `orders.csv`."""
     parser = argparse.ArgumentParser()
     make_instance.add_options(parser)
-    words = [*FLOOR, '--stations', str(PACKING), '--agents', str(options.agents), '--tasks', str(options.orders),
+    words = [*FLOOR, '--stations', str(MANY if options.around else FEW), '--agents', str(options.agents), '--tasks', str(options.orders),
              '--ticks', str(2 * options.orders), '--seed', str(options.seed)]
     path = os.path.join(folder, 'floor')
     with open(path, 'w') as file:
@@ -135,7 +136,7 @@ class Demo:
 
     @property
     def clock(self) -> str:
-        """Of the plan, and in which of its logs."""
+        """Of the plan; a run that goes on elsewhere begins at 0."""
         feed = self.server.feed
         number = feed.runs.opening.number
         return (f'run {number}, ' if number > 1 else '') + f'clock {feed.floor.run.clock}'
@@ -261,15 +262,15 @@ def watch(demo: Demo) -> str:
 
 def answer(options: argparse.Namespace, text: bytes, *subcommand: str) -> str:
     """What the program says of a text."""
-    words = [options.program, *subcommand, '--ends', 'homes']
+    words = [options.program, *subcommand, *([] if options.around else ['--ends', 'homes'])]
     return subprocess.run(words, input=text, stdout=subprocess.PIPE).stdout.decode('latin-1').strip()
 
 
 def verify(options: argparse.Namespace, instance: Instance, log: str) -> list[str]:
-    """What the program says of each log."""
+    """What the program says of the log of each run."""
     runs, found = Runs(instance, '', log, AHEAD), []
     for floor in [runs.follower(), *runs.each()]:
-        found.append(answer(options, floor.instance.text + read_file(floor.name), 'verify', '--wlog', '3', '--unended'))
+        found.append(answer(options, floor.instance.text + read_file(floor.name), 'verify', '--unended'))
     return found
 
 
@@ -280,7 +281,7 @@ def play(options: argparse.Namespace, folder: str) -> int:
         raise Fault(f'the program says of the floor: {verdict or "nothing"}')
     why = '--pipes' if options.pipes else missing()
     starts = [instance.points[start].cell for start in instance.starts]
-    more = ['--behind', str(BEHIND), '--ahead', str(AHEAD), '--out-after', str(OUT_AFTER), '--ends', 'homes']
+    more = ['--behind', str(BEHIND), '--ahead', str(AHEAD), *(['--out-after', '3', '--helpers'] if options.around else ['--ends', 'homes'])]
     cast = Cast(folder, os.path.join(folder, 'floor'), options.program, starts, instance.height, options.step, more=more, hub=Hub() if why else None,
                 apart=True)
     server = None

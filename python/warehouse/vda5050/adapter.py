@@ -17,9 +17,8 @@ on standard error. `warehouse/command` takes {"command": "pause"}, or resume, wi
 It keeps FILE (the core's log) and FILE.keys (keys, and how far each order is), and resumes from these and the vehicles' next states
 after any kill of itself, of the core, of the broker and of vehicles.
 
-A vehicle that is lost stops those behind it, in the end all. With --out-after SECONDS all halt instead (`cancelOrder`), and the run
-continues in another log (FILE.2, ..) from the state in which they stand, without the lost vehicle and the cells that it was granted; so
-again when it is back.
+A vehicle that is lost stops those behind it, in the end all. With --out-after SECONDS all halt instead (`cancelOrder`), the run ends,
+and the next one (FILE.2, ..) begins where they stand, without the lost vehicle and the cells that it was granted; again when it is back.
 
 Needs paho-mqtt. Status 0: interrupted; 2: a file or an option is wrong; 3: the core does not begin. Written from knowledge of VDA
 5050 2.x, not checked against its text.
@@ -73,6 +72,8 @@ def judge_options(options: argparse.Namespace) -> None:
                             ('silent', 1, 86400), ('out_after', 0, 86400)):
         if not low <= getattr(options, name) <= high:
             raise Fault(f'--{name.replace("_", "-")} {getattr(options, name):g}: {low:g} to {high:g} can be had')
+    if options.ends == 'homes' and options.out_after:
+        raise Fault('--out-after: with --ends homes no run can begin where vehicles stand')
     if options.deviation is not None and not 0 <= options.deviation < options.cell / 2:
         raise Fault(f'--deviation {options.deviation:g}: 0 to less than half a cell can be had')
 

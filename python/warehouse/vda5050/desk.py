@@ -35,7 +35,8 @@ class Desk:
         if not 2 <= len(stops) <= 8:
             self.answer(key, {'id': key, 'state': 'refused', 'why': f'{len(stops)} stops, and 2 to 8 can be'}, False)
             return
-        if self.has_to_wait(stops):
+        if not all(map(fleet.instance.is_station, stops)) and all(map(self.base.is_station, stops)):
+            # a stop lies where a vehicle that is out of use may be: the order waits for the next run
             self.tell(plan, self.book.put_aside(key, client, stops))
             return
         transport = self.book.put(key, client, stops, len(fleet.tasks))
@@ -49,20 +50,20 @@ class Desk:
         """Hands an order in whose line is in the file; why it was refused, or ''."""
         task, = fleet.hand_in([Order(fleet.clock, ' '.join(['submit', transport.client, *stops]))])
         if task is None:
-            self.book.free(transport.task)
+            self.book.free(transport.run, transport.task)
             return fleet.left_out.pop()
         return ''
 
-    def has_to_wait(self, stops: list[str]) -> bool:
-        """Whether a stop lies where a vehicle that is out of use may be: then the order waits for another run."""
-        barred = self.book.opening.barred
-        return all(map(self.base.is_station, stops)) and any(self.base.cell_of(stop) in barred for stop in stops)
-
-    def hand_in_left(self, fleet: Fleet) -> None:
-        """The orders that had to wait, and have not to any more."""
+    def hand_in_left(self, fleet: Fleet, stands: Callable[[int], str]) -> None:
+        """In a run that began where vehicles stand, the orders of those before: what is left of those that are carried, first, from where
+        its vehicle stands; then the others, but for those at whose stops there is no station now."""
         for one in self.book.left():
-            if not self.has_to_wait(one.stops):
-                self.hand_in(fleet, self.book.put(one.key, one.client, one.stops, len(fleet.tasks)), one.stops)
+            agent = self.book.opening.carried.get(one.key)
+            first = 0 if agent is None else max(one.made - 1, 0)
+            stops = one.stops if agent is None else [stands(agent), *one.stops[first + 1:]]
+            if all(fleet.instance.is_station(stop) for stop in stops):
+                transport = self.book.put(one.key, one.client, one.stops, len(fleet.tasks), first)
+                self.hand_in(fleet, transport, stops)
 
     # ---- what vehicles do
 
@@ -84,7 +85,7 @@ class Desk:
 
     def state(self, plan: Plan, one: Transport) -> Json:
         """How far an order is."""
-        agent = self.book.opening.carried.get(one.key, plan.agent_of.get(one.task))
+        agent = plan.agent_of.get(one.task) if one.run == self.book.opening.number else self.book.opening.carried.get(one.key)
         state = 'delivered' if one.is_delivered else 'picked' if one.made else 'accepted' if agent is None else 'assigned'
         return {'id': one.key, 'state': state, **({} if one.run == 0 else {'run': one.run, 'task': one.task}),
                 **({} if agent is None else {'agent': agent})}

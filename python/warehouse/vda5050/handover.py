@@ -1,16 +1,14 @@
-"""A vehicle that is lost, and one that is back: all halt, and the run goes on in another log, from the state in which they stand.
+"""A vehicle that is lost, and one that is back: all halt, the run ends, and the next one begins where they stand.
 
-A vehicle that is lost may be in any cell from where it has arrived to the last that it was told, and in none else. So the run goes on
-safely without knowing where it is: these cells are blocked in it. What it carries, or may carry, waits for it.
+A vehicle that is lost may be in any cell from where it has arrived to the last that it was told, and in none else. So the next run is
+safe without knowing where it is: these cells are blocked in it. What it carries, or may carry, waits for it.
 """
 from __future__ import annotations
 
 from typing import TYPE_CHECKING
 
-from ..process import SessionError
-from ..texts import Cell, Fault
+from ..texts import Cell
 from .book import Opening, Transport
-from .opening import Kept, Program, State, instance_of, islands_of, write_log
 from .plan import Leg
 from .vehicle import Vehicle
 
@@ -40,7 +38,7 @@ class Handover:
         self.asked[agent] = out
 
     def judge(self, now: float) -> None:
-        """Sees who is lost or back; where somebody is, all halt, and once they stand the run goes on elsewhere."""
+        """Sees who is lost or back; where somebody is, all halt, and once they stand the next run begins."""
         adapter = self.adapter
         if not adapter.settings.out_after or now - adapter.up < SETTLED:
             return
@@ -88,7 +86,7 @@ class Handover:
         layout, cell, state = self.adapter.settings.layout, vehicle.cell, vehicle.state
         if vehicle.agent not in self.back or not vehicle.is_idle or self.is_at_node(vehicle) or cell is None or state is None:
             return None
-        near = [(layout.off(other, state['agvPosition']), other) for other in self.adapter.book.opening.out[vehicle.agent]
+        near = [(layout.off(other, state['agvPosition']), other) for other in self.adapter.book.opening.blocked
                 if abs(other[0] - cell[0]) + abs(other[1] - cell[1]) == 1]
         off, found = min(near, default=(layout.side, cell))
         return found if off < layout.side else None
@@ -113,60 +111,65 @@ class Handover:
         """Whether it gets no order now. One that stands between two nodes gets its own, and is called back at the next."""
         return self.halts and vehicle.has_heard and self.is_at_node(vehicle)
 
-    # ---- the next log
+    # ---- the next run
 
     def begin(self, now: float) -> None:
-        """Ends the log, and goes on with the next one from where vehicles stand."""
+        """Ends the run, and begins the next one where vehicles stand."""
         adapter, book = self.adapter, self.adapter.book
-        for vehicle in adapter.vehicles:
-            adapter.look(vehicle, now)
-        adapter.report()    # what their last states tell
-        out = self.places(sorted({vehicle.agent for vehicle in adapter.vehicles} - {vehicle.agent for vehicle in self.in_use()}))
-        cells = {vehicle.agent: vehicle.cell for vehicle in self.in_use()}
-        if len(set(cells.values())) < len(cells) or not all(cell and adapter.base.is_passable(cell) for cell in cells.values()):
-            adapter.alarm('hand-over', f'vehicles stand at {list(cells.values())}: two in one cell, or one in none')
+        out = sorted({vehicle.agent for vehicle in adapter.vehicles} - {vehicle.agent for vehicle in self.in_use()})
+        cells, blocked = self.places(out)
+        taken = {cells[agent] for agent in range(len(cells))}
+        if len(taken) < len(cells) or not all(adapter.base.is_passable(cell) for cell in cells):
+            adapter.alarm('hand-over', f'vehicles stand at {cells}: two in one cell, or one in none')
             return
-        opening = Opening(book.opening.number + 1, out, self.loads(out))
+        carried = self.loads(out)
         adapter.desk.write(adapter.plan)
         adapter.core.end()
         adapter.core.kill()
         adapter.is_open = False
-        try:
-            self.write_log(opening)
-        except (SessionError, Fault) as error:
-            adapter.alarm('hand-over', str(error))
-            raise
-        book.begin_run(opening)
+        book.begin_run(Opening(book.opening.number + 1, cells, sorted(blocked - taken), out, carried))
         adapter.open()
         self.wanted, self.halts, self.back = {}, False, {}
         self.asked = {agent: is_out for agent, is_out in self.asked.items() if is_out}
         adapter.alarm('hand-over', '')
         names = ' '.join(adapter.vehicles[agent].serial for agent in out) or 'none'
-        adapter.tell(f'run {opening.number} begins; out of use: {names}; {len(opening.barred)} cells blocked, {len(opening.carried)} loads wait, '
+        adapter.tell(f'run {book.opening.number} begins; out of use: {names}; {len(blocked - taken)} cells blocked, {len(carried)} loads, '
                      f'{len(adapter.fleet.open)} orders open; all stood after {now - self.began:.1f} s')
 
-    def places(self, out: list[int]) -> dict[int, list[Cell]]:
-        """Of each agent that is to be out of use the cells where its vehicle may be, but for those where another stands."""
-        adapter = self.adapter
-        taken = {vehicle.cell for vehicle in self.in_use()}
-        places = {agent: adapter.book.opening.out.get(agent) or adapter.plan.occupied(agent) for agent in out}
-        return {agent: sorted(set(cells) - taken) for agent, cells in places.items()}
+    def places(self, out: list[int]) -> tuple[list[Cell], set[Cell]]:
+        """Where each agent begins, and the cells where a vehicle that is out of use may be."""
+        adapter, opening = self.adapter, self.adapter.book.opening
+        cells: list[Cell] = []
+        blocked: set[Cell] = set()
+        for vehicle in adapter.vehicles:
+            if vehicle.agent in out:
+                first, *ahead = adapter.plan.occupied(vehicle.agent)
+                cells.append(first)
+                blocked |= set(ahead)
+            else:
+                assert vehicle.cell is not None
+                cells.append(vehicle.cell)
+        if any(agent in opening.out for agent in out):
+            blocked |= set(opening.blocked)    # of one that stays out of use
+        return cells, blocked
 
-    def loads(self, out: dict[int, list[Cell]]) -> dict[str, int]:
-        """What those that are out of use carry or may carry; what one that is back has put down is delivered."""
+    def loads(self, out: list[int]) -> dict[str, int]:
+        """What each agent carries, and what one that is out of use may carry; what one that is back has put down is delivered."""
         adapter, opening = self.adapter, self.adapter.book.opening
         carried: dict[str, int] = {}
         for one in adapter.book.transports.values():
-            agent = opening.carried.get(one.key, adapter.plan.agent_of.get(one.task))
+            is_of_run = one.run == opening.number
+            agent = adapter.plan.agent_of.get(one.task) if is_of_run else opening.carried.get(one.key)
             if one.is_delivered or agent is None:
                 continue
             vehicle = adapter.vehicles[agent]
             if agent in out:
-                leg = adapter.plan.doing.get(one.task)
-                if one.key in opening.carried or one.made or leg is not None and may_have_picked(leg):
+                leg = adapter.plan.doing.get(one.task) if is_of_run else None
+                if one.made or leg is None or may_have_picked(leg):
                     carried[one.key] = agent
             elif self.is_aboard(vehicle, one):
                 adapter.desk.make(one, 1)
+                carried[one.key] = agent
             elif one.made and vehicle.state is not None and 'loads' in vehicle.state:
                 adapter.desk.make(one, len(one.stops))
         return carried
@@ -177,42 +180,7 @@ class Handover:
             return bool(one.made)
         return one.key in vehicle.loads or ('' in vehicle.loads and bool(one.made))
 
-    def write_log(self, opening: Opening) -> None:
-        """The next log: the state as the program has it where all have reported, changed as vehicles are out of use, back, or astray."""
-        adapter = self.adapter
-        program = Program(adapter.settings.program, adapter.settings.ends)
-        state = program.state(instance_of(adapter.base, adapter.book.opening), adapter.log)
-        islands = islands_of(adapter.base, opening)
-        for vehicle in adapter.vehicles:
-            state.cells[vehicle.agent] = islands.get(vehicle.agent) or vehicle.cell or state.cells[vehicle.agent]
-        for number, task in enumerate(state.tasks):
-            one = adapter.book.of_task(number)
-            if one is not None and not (one.is_delivered and len(task.visits) == len(task.stops)):
-                agent = adapter.book.opening.carried.get(one.key, adapter.plan.agent_of.get(number))
-                self.keep(state, task, one, agent, opening)
-        instance, text = instance_of(adapter.base, opening), str(state)
-        program.judge(instance, text)
-        write_log(adapter.settings.log_of(opening.number), text)
-
-    def keep(self, state: State, task: Kept, one: Transport, agent: int | None, opening: Opening) -> None:
-        """Who has a task that is not delivered, and how many of its visits are made: those by arrival, where its vehicle stands there still,
-        else those that are known. An open one that an agent out of use may have, or that stops where its vehicle may be, is for that agent."""
-        base, islands = self.adapter.base, islands_of(self.adapter.base, opening)
-        stops, made = [base.cell_of(stop) for stop in one.stops], len(task.visits)
-        if agent in opening.out:
-            made = max(made, one.made)
-        elif agent is not None:
-            cell = state.cells[agent]
-            made = made if made > one.made and cell == stops[made - 1] else one.made
-            while 0 < made < len(stops) and cell == stops[made]:    # it is there already
-                made += 1
-        visits = [*task.visits, *[state.clock] * len(stops)][:made]
-        task.visits, task.agent, task.stops = visits, agent if visits else None, [islands.get(stop, stop) for stop in stops]
-        waits_for = opening.carried.get(one.key, next((other for other, cells in opening.out.items() if set(cells) & set(stops)), None))
-        if not visits and waits_for is not None:
-            task.stops = [islands[waits_for]] * len(stops)
-
 
 def may_have_picked(leg: Leg) -> bool:
     """Whether the vehicle was told to the first stop of its task."""
-    return leg.first == 0 and bool(leg.visits) and leg.told >= leg.visits[0]
+    return bool(leg.visits) and leg.told >= leg.visits[0]

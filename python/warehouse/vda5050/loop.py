@@ -13,7 +13,7 @@ from ..fleet import HELPER, Stop
 from ..process import SessionError
 from ..replies import Arrived, Go, Parked, Reply, Took
 from ..session import Session, Vehicles
-from ..texts import Fault, Instance, Run, read_arrivals, read_file, standing
+from ..texts import Fault, Instance, read_arrivals, read_file
 from .book import Book
 from .broker import CONNECTED, Broker, Message
 from .desk import Desk, judge_log
@@ -54,17 +54,12 @@ class Settings:
     said: str = 'vda5050'
     ends: str = 'stops'
 
-    def log_of(self, number: int) -> str:
-        """The file of that run."""
-        return self.log + (f'.{number}' if number > 1 else '')
-
 
 class Adapter:
     """Vehicles by MQTT, orders of transport by MQTT, and the core between."""
     core: Session
     fleet: Dispatch
     plan: Plan
-    began: Run    # the state with which the log begins
 
     def __init__(self, instance: Instance, settings: Settings, broker: Broker, book: Book, vehicles: list[Vehicle]):
         self.base, self.settings, self.broker, self.book, self.vehicles = instance, settings, broker, book, vehicles
@@ -89,11 +84,6 @@ class Adapter:
                           (f'{settings.prefix}/order', 1), (f'{settings.prefix}/command', 1)])
 
     @property
-    def log(self) -> str:
-        """The file of the run that goes on."""
-        return self.settings.log_of(self.book.opening.number)
-
-    @property
     def run(self) -> str:
         return f'{self.book.name}-{self.book.opening.number}'
 
@@ -105,13 +95,14 @@ class Adapter:
     def open(self) -> None:
         """Begins the run, or goes on with it. Raises SessionError, Stop, Fault."""
         opening, settings = self.book.opening, self.settings
-        instance, log = instance_of(self.base, opening), self.log
+        instance = instance_of(self.base, opening)
+        log = settings.log + (f'.{opening.number}' if opening.number > 1 else '')
         self.core = Session(instance, settings.program, log=log, vehicles=settings.late, ends=settings.ends, wait=LONGEST_WAIT)
         try:
             self.fleet = Dispatch(self.core, opening, self.book, self.hear)
             judge_log(self.book, self.fleet, log)
-            self.began = self.core.state or standing(instance)
-            self.plan = Plan(self.began, lambda task: self.fleet.stops[task], self.made)
+            starts = [instance.points[start].cell for start in instance.starts]
+            self.plan = Plan(starts, lambda task: self.fleet.stops[task], self.made)
             self.plan.ended = self.is_over
             self.read_run(log)
         except BaseException:
@@ -121,14 +112,14 @@ class Adapter:
             vehicle.out = vehicle.agent in opening.out
         self.reports.clear()    # of the run before, it may be: what still holds comes again at the next look
         self.is_open, self.restarts, self.starts = True, 0, self.starts + 1
-        self.desk.hand_in_left(self.fleet)
+        self.desk.hand_in_left(self.fleet, lambda agent: instance.points[instance.starts[agent]].name)
         self.take_told()
         self.next_look = 0.0
 
     def read_run(self, log: str) -> None:
         """What the log and the file of arrivals say of paths, and of where vehicles are."""
         for clock, entry in self.fleet.clocks(self.core.begun):
-            self.plan.hear(clock - self.began.start, entry.command, entry.reply)
+            self.plan.hear(clock, entry.command, entry.reply)
         if os.path.exists(log + '.at'):
             for agent, step in enumerate(read_arrivals(log + '.at', read_file(log + '.at'), len(self.vehicles))):
                 self.plan.arrived(agent, step)
@@ -136,7 +127,7 @@ class Adapter:
 
     def hear(self, line: str, reply: Reply) -> None:
         """What the core answers to the fleet."""
-        self.plan.hear(self.fleet.clock - self.began.start, line, reply)
+        self.plan.hear(self.fleet.clock, line, reply)
         if isinstance(reply, Took):
             self.taken.append(reply.task)
         if isinstance(reply, (Took, Parked)):
@@ -149,15 +140,15 @@ class Adapter:
                 self.changed.add(one.agent)
 
     def made(self, task: int) -> int:
-        """How many visits of a task are made."""
+        """How many visits of a task of this run are made."""
         transport = self.book.of_task(task)
-        return 0 if transport is None else transport.made
+        return 0 if transport is None else transport.made - transport.first
 
     def is_over(self, leg: Leg) -> None:
         """A vehicle is on a later path, so it has made all visits of this one."""
         transport = None if leg.task is None else self.book.of_task(leg.task)
         if transport is not None:
-            self.desk.make(transport, leg.first + len(leg.visits))
+            self.desk.make(transport, transport.first + len(leg.visits))
 
     def fail(self, why: str, now: float) -> None:
         """The core is not to be gone on with: it is begun again, soon."""
@@ -196,7 +187,7 @@ class Adapter:
         self.handover.judge(now)
         if not self.handover.halts:
             self.fleet.policy(self.fleet)
-            if now >= self.next_tick and self.fleet.goes_on() and self.fleet.held is None:
+            if now >= self.next_tick and self.fleet.under_way() and self.fleet.held is None:
                 if self.fleet.tick():
                     self.next_tick = max(self.next_tick + self.settings.step, now - self.settings.step)
                 self.fleet.policy(self.fleet)
@@ -341,14 +332,15 @@ class Adapter:
             self.plan.drop(vehicle.agent, 1)
 
     def take_actions(self, vehicle: Vehicle, named: Name) -> None:
-        """What of its order's actions has ended."""
+        """What of its order's actions has ended, also of a run before where the order waits for this vehicle."""
         for action in vehicle.state['actionStates'] if vehicle.state else ():
             name, _, key = action['actionId'].partition(':')
             order, _, visit = name.rpartition('.')
             transport = self.book.transports.get(key)
             if transport is None or order != str(named) or not visit.isdecimal() or action['actionStatus'] != 'FINISHED':
                 continue
-            self.desk.make(transport, min(int(visit) + 1, len(transport.stops)))
+            if f'{self.book.name}-{transport.run}' == named.run:
+                self.desk.make(transport, min(transport.first + int(visit) + 1, len(transport.stops)))
 
     def place(self, vehicle: Vehicle) -> None:
         """The node where it is, and its arrival there. It is at no node where its cell is none that it may be in."""
@@ -368,7 +360,8 @@ class Adapter:
         if leg.came < vehicle.node <= leg.told and row_of(vehicle).reports:
             self.reports[vehicle.agent] = max(self.reports.get(vehicle.agent, 0), leg.steps[vehicle.node])
         if transport is not None and vehicle.node <= leg.told:
-            self.desk.make(transport, leg.made_before(vehicle.node + (transport.client == HELPER)))
+            passed = vehicle.node + (transport.client == HELPER)
+            self.desk.make(transport, transport.first + sum(at < passed for at in leg.visits))
             if 'loads' in state:
                 self.by_load(vehicle, leg)
 
@@ -379,7 +372,7 @@ class Adapter:
         is_aboard = transport.key in vehicle.loads or '' in vehicle.loads
         if transport.key in vehicle.loads:
             self.desk.make(transport, 1)
-        elif not is_aboard and not vehicle.has_leg and vehicle.is_idle and vehicle.node == leg.last and leg.first + len(leg.visits) == len(transport.stops) == transport.made + 1:
+        elif not is_aboard and not vehicle.has_leg and vehicle.is_idle and vehicle.node == leg.last and transport.made == len(transport.stops) - 1:
             self.desk.make(transport, len(transport.stops))
 
     def serve(self, vehicle: Vehicle, now: float) -> None:

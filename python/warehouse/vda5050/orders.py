@@ -64,7 +64,8 @@ class Writer:
         transport = None if leg.task is None else self.transport_of(leg.task)
         if transport is None or transport.client == HELPER:
             return []
-        return [self.action(transport, f'{name}.{stop}:{transport.key}', stop) for stop in leg.visits_at(node) if stop >= transport.made]
+        return [self.action(transport, f'{name}.{visit}:{transport.key}', visit + transport.first) for visit in leg.visits_at(node)
+                if visit + transport.first >= transport.made]
 
     def action(self, transport: Transport, name: str, stop: int) -> Json:
         """One action: a pick at the first stop, a drop at the last, a visit between."""

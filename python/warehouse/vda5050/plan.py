@@ -11,7 +11,7 @@ from dataclasses import dataclass, field
 from typing import Callable, Iterator
 
 from ..replies import Go, Parked, Reply, Took
-from ..texts import Cell, Run
+from ..texts import Cell
 
 
 @dataclass
@@ -22,8 +22,7 @@ class Leg:
     steps: list[int]           # of each node the step at which the plan comes there
     cells: list[Cell]          # of each node
     task: int | None = None
-    visits: list[int] = field(default_factory=list)    # of each stop of the task that is made on it, from `first` on, the node where
-    first: int = 0
+    visits: list[int] = field(default_factory=list)    # of each stop of the task the node where it is made
     told: int = 0
     came: int = 0
     is_cut: bool = False
@@ -39,17 +38,13 @@ class Leg:
         return len(self.cells) - 1
 
     def visits_at(self, node: int) -> list[int]:
-        """The stops of the task that are made at that node."""
-        return [visit for visit, at in enumerate(self.visits, self.first) if at == node]
-
-    def made_before(self, node: int) -> int:
-        """How many stops of the task are made once all those at nodes before that one are."""
-        return self.first + sum(at < node for at in self.visits)
+        """The stops that are made at that node."""
+        return [visit for visit, at in enumerate(self.visits) if at == node]
 
 
-def leg_of(number: int, clock: int, cells: tuple[Cell, ...], task: int | None, stops: list[Cell], first: int = 0) -> Leg:
-    """The leg of a path that begins at that clock, on the way to these stops, the first of which is that one of the task."""
-    leg = Leg(number, clock, [], [], task, first=first)
+def leg_of(number: int, clock: int, cells: tuple[Cell, ...], task: int | None, stops: list[Cell]) -> Leg:
+    """The leg of a path that begins at that clock."""
+    leg = Leg(number, clock, [], [], task)
     for step, cell in enumerate(cells, clock):
         if not leg.cells or cell != leg.cells[-1]:
             leg.steps.append(step)
@@ -59,31 +54,14 @@ def leg_of(number: int, clock: int, cells: tuple[Cell, ...], task: int | None, s
     return leg
 
 
-def legs_at_rest(run: Run, agent: int) -> list[Leg]:
-    """The legs with which an agent begins over a state: it stands, and may still have to make the last visits that the plan has made."""
-    cell = run.paths[agent][0].cells[0]
-    own = [(number, task) for number, task in enumerate(run.tasks) if task.agent == agent and task.before]
-    last = max((task.visits[task.before - 1] for _, task in own), default=0)
-    legs: list[Leg] = []
-    for number, task in sorted(own, key=lambda one: not one[1].done_before):
-        stops = [run.instance.points[stop].cell for stop in task.stops[:task.before]]
-        first = next((visit + 1 for visit in range(len(stops) - 1, -1, -1) if stops[visit] != cell), 0)
-        if first < len(stops) and task.visits[task.before - 1] == last:
-            legs.append(Leg(len(legs), 0, [0], [cell], number, [0] * (len(stops) - first), first))
-    return legs or [Leg(0, 0, [0], [cell])]
-
-
 class Plan:
-    """The legs of each agent that are not done yet; `made(task)` says how many visits of a task are made. It begins over a state of a run, and
-    clocks and steps count from that one's."""
+    """The legs of each agent that are not done yet; `made(task)` says how many visits of a task are made."""
 
-    def __init__(self, run: Run, stops: Callable[[int], list[Cell]], made: Callable[[int], int]):
+    def __init__(self, starts: list[Cell], stops: Callable[[int], list[Cell]], made: Callable[[int], int]):
         self.stops, self.made = stops, made
-        self.legs = [legs_at_rest(run, agent) for agent in range(len(run.paths))]
-        self.agent_of = {number: task.agent for number, task in enumerate(run.tasks) if task.agent is not None}
+        self.legs = [[Leg(0, 0, [0], [start])] for start in starts]
+        self.agent_of: dict[int, int] = {}      # of each task that was taken
         self.doing: dict[int, Leg] = {}         # of each task its leg
-        self.halted = dict(run.halted)          # of agents that have a task to which no path leads yet, that
-        self.planned = {number: task.before for number, task in enumerate(run.tasks)}    # how many of a task's visits paths lead to
         self.ended: Callable[[Leg], None] = lambda leg: None    # called where a later leg shows that one was done
 
     def hear(self, clock: int, command: str, reply: Reply) -> None:
@@ -92,25 +70,15 @@ class Plan:
             case Took(task, cells, _):
                 agent = int(command.split(' ')[1])
                 self.agent_of[task] = agent
-                self.halted.pop(agent, None)
-                self.adopt(agent, clock, cells, task)
+                self.doing[task] = self.adopt(agent, clock, cells, task, self.stops(task))
             case Parked(_, cells, _):
-                agent = int(command.split(' ')[1])
-                self.adopt(agent, clock, cells, self.halted.get(agent))
+                self.adopt(int(command.split(' ')[1]), clock, cells, None, [])
 
-    def adopt(self, agent: int, clock: int, cells: tuple[Cell, ...], task: int | None) -> None:
-        """A path, on which visits of the task are made that are left."""
+    def adopt(self, agent: int, clock: int, cells: tuple[Cell, ...], task: int | None, stops: list[Cell]) -> Leg:
         self.legs[agent][-1].cut(clock)
-        first = 0 if task is None else self.planned.get(task, 0)
-        leg = leg_of(self.legs[agent][-1].number + 1, clock, cells, task, [] if task is None else self.stops(task)[first:], first)
+        leg = leg_of(self.legs[agent][-1].number + 1, clock, cells, task, stops)
         self.legs[agent].append(leg)
-        if task is None or not leg.visits:    # one that makes way may come to none
-            leg.task = None
-            return
-        self.planned[task] = first + len(leg.visits)
-        self.doing[task] = leg
-        if self.planned[task] == len(self.stops(task)):
-            self.halted.pop(agent, None)
+        return leg
 
     def arrived(self, agent: int, step: int) -> None:
         """The vehicle is at that step, or was."""
@@ -142,7 +110,7 @@ class Plan:
 
     def is_done(self, leg: Leg) -> bool:
         """Whether the vehicle is at the leg's end, and has made all its visits."""
-        return leg.came == leg.last and (leg.task is None or self.made(leg.task) >= leg.first + len(leg.visits))
+        return leg.came == leg.last and (leg.task is None or self.made(leg.task) >= len(leg.visits))
 
     def current(self, agent: int) -> Leg | None:
         """The first leg that is not done; None where the vehicle has nothing to do. Those before are forgotten, but the last one."""

@@ -1,5 +1,5 @@
-"""Which log goes on. Where a vehicle is lost, the VDA 5050 adapter goes on in another log (LOG.2, LOG.3, ..), over a floor without that one's cells;
-and a log may be continued by another one over the same floor. Each begins with the state that the run had then."""
+"""Which run goes on. Where a vehicle is lost, the VDA 5050 adapter ends one run (LOG) and begins the next where vehicles stand (LOG.2, LOG.3, ..);
+and a log may be continued by another one, which begins with the state that the run had then."""
 from __future__ import annotations
 
 import hashlib
@@ -42,7 +42,7 @@ class Runs:
             floor.wrong, self.floor = self.wrong, floor
             return floor
         floor = Follower(instance_of(self.base, self.opening), f'{self.title}, run {number}', f'{self.log}.{number}', self.ahead)
-        floor.out = list(self.opening.out)
+        floor.out = self.opening.out
         return floor
 
     def look(self) -> Follower | None:
@@ -84,6 +84,6 @@ class Runs:
         if lines is None:    # another list
             self.keys, self.opening, lines = Tail(self.keys.path), Opening(), []
         for line in lines:
-            if line.startswith(b'{"run":') and (opening := opening_of(json.loads(line))):
-                self.opening = opening
+            if line.startswith(b'{"run":'):
+                self.opening = opening_of(json.loads(line))
                 yield self.follower()
